@@ -1,0 +1,46 @@
+-- Batch file: the batch that the record holds, read as 01 speaks of it. n jobs, job i's p masks, m delays; places past them are
+-- never read.
+use Prim.Native.Nat.{ℕ, _/_, _%_, _^_}
+use mathlib.Core.Bool.{Bool}
+use mathlib.Core.List.{List, map}
+use lib.ListN.{getD, replicate}
+use lib.IntN.{pos}
+use lib.Dec.{eqb}
+use Rattle.model.specs.declared.Delay.{Delay}
+use Rattle.model.specs.declared.Job.{Job}
+use Rattle.model.specs.declared.Batch.{Batch}
+use Rattle.model.specs.Common.{count}
+use Rattle.model.specs.Limits.{mostTicks, mostJobs, mostDelays}
+
+-- ---- unused places
+
+unfoldable pub blankJob : Job
+blankJob = record { ticks = 0; masks = replicate mostTicks 0 }
+
+unfoldable pub blankDelay : Delay
+blankDelay = record { from = 0; to = 0; weight = pos 0 }
+
+-- ---- jobs: a job is a reservation table
+
+unfoldable pub jobOf : Batch → ℕ → Job
+jobOf b i = getD (b .jobs) i blankJob
+
+-- p of job i
+unfoldable pub ticks : Batch → ℕ → ℕ
+ticks b i = jobOf b i .ticks
+
+-- mask a of job i
+unfoldable pub mask : Batch → ℕ → ℕ → ℕ
+mask b i a = getD (jobOf b i .masks) a 0
+
+-- bit s of a mask (value 2^s)
+unfoldable pub bit : ℕ → ℕ → Bool
+bit mask s = eqb (mask / 2 ^ s % 2) 1
+
+-- ---- delays: one list of records (from, to, weight), in file order, repeats kept
+
+unfoldable pub delayOf : Batch → ℕ → Delay
+delayOf b k = getD (b .delays) k blankDelay
+
+unfoldable pub delaysOf : Batch → List Delay
+delaysOf b = map (delayOf b) (count 0 (b .m))

@@ -1,0 +1,83 @@
+-- Batch file: the format as 01 describes it, with no word of how a file is read. A file keeps the format when it is the text of a
+-- batch within the limits.
+use Prim.Native.Nat.{ℕ, _-_, _≤_, _<_}
+use mathlib.Core.Path.{_≡_}
+use mathlib.Core.Logic.{_≢_}
+use mathlib.Core.List.{List, [], _∷_, _++_, List·Memᴰ, map}
+use lib.ListN.{length, getD}
+use lib.IntN.{ℤ, pos, negsuc}
+use lib.Signed.{_≤ℤ_}
+use Rattle.model.specs.declared.Delay.{Delay}
+use Rattle.model.specs.declared.Job.{Job}
+use Rattle.model.specs.declared.Batch.{Batch}
+use Rattle.model.specs.Common.{count, joined, pad}
+use Rattle.model.specs.Limits.{mostJobs, mostDelays, mostTicks, mostWeight, mostClashes}
+use Rattle.model.specs.Batch.{blankJob, blankDelay, jobOf, ticks, mask, delaysOf}
+use Rattle.model.specs.Plan.{KeepsDelays}
+use Rattle.model.specs.Clash.{clashes}
+use Rattle.model.specs.Line.{line, two}
+
+-- ---- the text of a batch
+
+-- a weight in two's complement: below 0 it is w + 65,536
+unfoldable pub unsigned : ℤ → ℕ
+unsigned (pos k) = k
+unsigned (negsuc k) = 65535 - k
+
+unfoldable pub headerLine : ℕ → ℕ → List ℕ
+headerLine n m = line (0xA0 ∷ 0x01 ∷ n ∷ m ∷ [])
+
+-- the p masks of a job
+unfoldable pub masksOf : Job → List ℕ
+masksOf job = map (λ a. getD (job .masks) a 0) (count 0 (job .ticks))
+
+unfoldable pub jobLine : Job → List ℕ
+jobLine job = line (0xA1 ∷ job .ticks ∷ joined two (masksOf job))
+
+unfoldable pub delayLine : Delay → List ℕ
+delayLine q = line (0xA2 ∷ q .from ∷ q .to ∷ two (unsigned (q .weight)))
+
+unfoldable pub jobsOf : Batch → List Job
+jobsOf b = map (jobOf b) (count 0 (b .n))
+
+unfoldable pub batchFile : Batch → List ℕ
+batchFile b = headerLine (b .n) (b .m) ++ (joined jobLine (jobsOf b) ++ joined delayLine (delaysOf b))
+
+-- ---- the limits
+
+-- the batch keeps 01's limits, and a mask is two bytes
+pub record Within (b : Batch) : Type 0 where
+  pub jobs : (1 ≤ b .n) × (b .n ≤ mostJobs)
+  pub delays : b .m ≤ mostDelays
+  pub ticks-each : (i : ℕ) → i < b .n → (1 ≤ ticks b i) × (ticks b i ≤ mostTicks)
+  pub masks-each : (i a : ℕ) → i < b .n → a < ticks b i → mask b i a < 65536
+  pub ends-each : (q : Delay) → List·Memᴰ q (delaysOf b) → (q .from < b .n) × (q .to < b .n) × (q .from ≢ q .to)
+  pub weight-each : (q : Delay) → List·Memᴰ q (delaysOf b) → (negsuc (mostWeight - 1) ≤ℤ q .weight) × (q .weight ≤ℤ pos mostWeight)
+
+-- ---- the batch that a file yields has its unused places blank
+
+unfoldable pub padJob : Job → Job
+padJob job = record { ticks = job .ticks; masks = pad mostTicks 0 (masksOf job) }
+
+unfoldable pub batchOf : List Job → List Delay → Batch
+batchOf jobs delays =
+    record {
+      n = length jobs;
+      m = length delays;
+      jobs = pad mostJobs blankJob jobs;
+      delays = pad mostDelays blankDelay delays;
+    }
+
+unfoldable pub blanked : Batch → Batch
+blanked b = batchOf (map padJob (jobsOf b)) (delaysOf b)
+
+-- ---- what a file must be to be opened, and the batch that it then yields
+
+pub record BatchFile (file : List ℕ) (b : Batch) : Type 0 where
+  pub within : Within b
+  pub text : file ≡ batchFile b
+  pub blank : b ≡ blanked b
+  pub few : length (clashes b) ≤ mostClashes
+  pub starts : List ℕ
+  pub starts-each : length starts ≡ b .n
+  pub starts-keep : KeepsDelays b starts

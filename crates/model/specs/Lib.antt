@@ -1,0 +1,20 @@
+-- Document 01 as definitions, in its order. `All` unfolds them together; `Marked` has 01's marked batches.
+pub mod Common
+pub mod Limits
+pub mod Batch
+pub mod Plan
+pub mod Clash
+pub mod Starts
+pub mod Search
+pub mod Line
+pub mod Format
+pub mod Open
+pub mod Sound
+pub mod Run
+pub mod Answers
+pub mod Text
+pub mod Program
+pub mod Calls
+pub mod Demands
+pub mod All
+pub mod Marked

@@ -1,0 +1,36 @@
+-- 01's limits, each named once.
+use Prim.Native.Nat.{ℕ}
+
+abbrev pub mostJobs : ℕ
+mostJobs = 24
+
+abbrev pub mostDelays : ℕ
+mostDelays = 128
+
+abbrev pub mostTicks : ℕ
+mostTicks = 16
+
+abbrev pub stations : ℕ
+stations = 16
+
+-- w is −1,000 to 1,000
+abbrev pub mostWeight : ℕ
+mostWeight = 1000
+
+-- D, and the places of a path
+abbrev pub mostClashes : ℕ
+mostClashes = 1024
+
+-- no start passes 23,000, and no latency 23,016
+abbrev pub mostStart : ℕ
+mostStart = 23000
+
+abbrev pub mostLatency : ℕ
+mostLatency = 23016
+
+-- of one run, and of a whole search
+abbrev pub mostBudget : ℕ
+mostBudget = 1000000
+
+abbrev pub mostTotal : ℕ
+mostTotal = 100000000

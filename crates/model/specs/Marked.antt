@@ -1,0 +1,104 @@
+-- Marked batches: C1 to C10 of 01 and rows of our own, one table, and the theorem that every row is what the definitions give.
+use Prim.Native.Nat.{ℕ}
+use Prim.Native.Char.{code}
+use Prim.Native.String.{String, [] as end, _∷_ as _then_}
+use mathlib.Core.Path.{_≡_, refl}
+use mathlib.Core.Bool.{Bool, true, _&&_}
+use mathlib.Core.List.{List, [], _∷_, _++_, map}
+use lib.ListN.{replicate}
+use lib.Dec.{eqb}
+use Rattle.model.specs.declared.Batch.{Batch}
+use Rattle.model.specs.declared.Search.{Search}
+use Rattle.model.specs.declared.Answer.{Answer}
+use Rattle.model.specs.declared.Answer.the-variants.{Spent, Plan, NoPlan}
+use Rattle.model.specs.declared.Ran.{Ran}
+use Rattle.model.specs.Common.{if_then_else_, Outcome, refuse, accept, _>>=_}
+use Rattle.model.specs.Search.{nodes, freshSearch}
+use Rattle.model.specs.Open.{openFile}
+use Rattle.model.specs.Run.{ran}
+use Rattle.model.specs.All.{definitions}
+
+-- ---- files as 01 prints them: each blank stands for 0A, and the file ends in 0A
+
+unfoldable pub characters : String → List ℕ
+characters end = []
+characters (c then cs) = (if eqb (code c) 32 then 10 else code c) ∷ characters cs
+
+unfoldable pub fileOf : String → List ℕ
+fileOf s = characters s ++ (10 ∷ [])
+
+-- ---- the table
+
+-- what a batch that opens shows: each run's answer, the starts list after the last, and that N is n
+pub record Shown : Type 0 where
+  pub answers : List Answer
+  pub starts : List ℕ
+  pub ends : Bool
+
+pub record Row : Type 0 where
+  pub file : List ℕ
+  pub budgets : List ℕ
+  pub n : ℕ
+  pub stated : Outcome Shown
+
+unfoldable pub refusedWith : ℕ → List ℕ → Row
+refusedWith k file = record { file = file; budgets = []; n = 0; stated = refuse k }
+
+unfoldable pub opens : String → List ℕ → ℕ → List Answer → List ℕ → Row
+opens file budgets n answers starts =
+    record { file = fileOf file; budgets = budgets; n = n; stated = accept (record { answers = answers; starts = starts; ends = true }) }
+
+-- one run with more budget than any row needs
+unfoldable pub once : List ℕ
+once = 100 ∷ []
+
+-- C1 to C10, and then our own rows
+unfoldable pub rows : List Row
+rows =
+    refusedWith 7 []
+    ∷ opens "A0010100 A1010001" once 1 (Plan 1 1 ∷ []) (0 ∷ [])
+    ∷ opens "A0010200 A1010001 A103000100020002" once 3 (Plan 3 3 ∷ []) (1 ∷ 0 ∷ [])
+    ∷ opens "A0010200 A10200010002 A10200010002" once 3 (Plan 3 3 ∷ []) (0 ∷ 1 ∷ [])
+    ∷ opens "A0010202 A1010001 A1010001 A200010000 A201000000" once 3 (NoPlan 3 ∷ []) (0 ∷ 0 ∷ [])
+    ∷ refusedWith 10 (fileOf "A0010202 A1010001 A1010002 A200010001 A201000000")
+    ∷ opens "A0010202 A1010001 A1010002 A200010001 A20100FFFF" once 1 (Plan 2 1 ∷ []) (0 ∷ 1 ∷ [])
+    ∷ opens "A0010100 A10200010000" once 1 (Plan 2 1 ∷ []) (0 ∷ [])
+    ∷ opens "A0010200 A1010001 A103000100020002" (0 ∷ 2 ∷ 1 ∷ []) 3 (Spent 0 ∷ Spent 2 ∷ Plan 3 3 ∷ []) (1 ∷ 0 ∷ [])
+    ∷ opens "A0010201 A1010001 A1010002 A2000103E8" once 1 (Plan 1001 1 ∷ []) (0 ∷ 1000 ∷ [])
+    ∷ opens "A0010201 A1010001 A1010002 A20001FC18" once 1 (Plan 1 1 ∷ []) (0 ∷ 0 ∷ [])
+    ∷ refusedWith 6 (fileOf "A0010201 A1010001 A1010002 A2000103E9")
+    ∷ refusedWith 6 (fileOf "A0010201 A1010001 A1010002 A20001FC17")
+    -- a station shared in later ticks only
+    ∷ opens "A0010200 A10200000001 A10200000001" once 3 (Plan 3 3 ∷ []) (0 ∷ 1 ∷ [])
+    -- four jobs: the order in which clashes are branched on
+    ∷ opens "A0010400 A10200010000 A1010002 A1010002 A10200010003" once 5 (Plan 3 5 ∷ []) (0 ∷ 0 ∷ 1 ∷ 1 ∷ [])
+    -- the order of the refusals: 2 before 3, 3 before 4, 5 before 6, 8 before 10
+    ∷ refusedWith 2 (fileOf "A00201")
+    ∷ refusedWith 3 (fileOf "A0020000")
+    ∷ refusedWith 5 (fileOf "A0010201 A1010001 A1010001 A2000003E9")
+    ∷ refusedWith 8 (fileOf "A0010202 A1010001 A1010002 A200010001 A201000000 ")
+    ∷ []
+
+-- ---- what the definitions give
+
+unfoldable pub runs : Search → List ℕ → List ℕ → List Answer × List ℕ
+runs s [] list = ([], list)
+runs s (k ∷ ks) list =
+    let r = ran s k list in
+    let (answers, last) = runs (r .0 .search) ks (r .1) in
+    (r .0 .answer ∷ answers, last)
+
+unfoldable pub endsAt : Batch → ℕ → Bool
+endsAt b n = let s = nodes n (freshSearch b) in s .ended && eqb (s .total) n
+
+unfoldable pub shown : Row → Batch → Shown
+shown r b =
+    let (answers, starts) = runs (freshSearch b) (r .budgets) (replicate (b .n) 0) in
+    record { answers = answers; starts = starts; ends = endsAt b (r .n) }
+
+unfoldable pub gives : Row → Outcome Shown
+gives r = openFile (r .file) >>= λ b. accept (shown r b)
+
+pub marked : map gives rows ≡ map (λ r. r .stated) rows
+unfolding definitions rows refusedWith opens once gives shown runs endsAt characters fileOf
+marked = refl

@@ -1,0 +1,52 @@
+-- Plan and latency, by ticks and stations and with no word of clashes. A plan (a schedule) is the list of its starts.
+use Prim.Native.Nat.{ℕ, _+_, _≤_, _<_, max}
+use mathlib.Core.Path.{_≡_}
+use mathlib.Core.List.{List, List·Memᴰ, map, foldr}
+use lib.ListN.{getD, length}
+use lib.IntN.{subℕ}
+use lib.Signed.{_≤ℤ_}
+use lib.Dec.{T}
+use Rattle.model.specs.declared.Delay.{Delay}
+use Rattle.model.specs.declared.Batch.{Batch}
+use Rattle.model.specs.Common.{count}
+use Rattle.model.specs.Limits.{stations}
+use Rattle.model.specs.Batch.{ticks, mask, bit, delaysOf}
+
+-- t_i of a plan
+unfoldable pub start : List ℕ → ℕ → ℕ
+start ts i = getD ts i 0
+
+-- t_j − t_i ≥ w, for a delay from i to j
+unfoldable pub Keeps : List ℕ → Delay → Type 0
+Keeps ts q = q .weight ≤ℤ subℕ (start ts (q .to)) (start ts (q .from))
+
+-- job i holds station s in tick x: in tick t_i + a it holds what its mask a says
+unfoldable pub Holds : Batch → List ℕ → ℕ → ℕ → ℕ → Type 0
+Holds b ts i s x = (a : ℕ) × (a < ticks b i) × (x ≡ start ts i + a) × T (bit (mask b i a) s)
+
+-- each delay is kept
+unfoldable pub KeepsDelays : Batch → List ℕ → Type 0
+KeepsDelays b ts = (q : Delay) → List·Memᴰ q (delaysOf b) → Keeps ts q
+
+-- no two jobs hold one station in the same tick
+unfoldable pub KeepsStations : Batch → List ℕ → Type 0
+KeepsStations b ts = (i j s x : ℕ) → i < j → j < b .n → s < stations → Holds b ts i s x → Holds b ts j s x → ⊥
+
+-- a plan gives each job a start, and is valid when it keeps the delays and the stations
+pub record Valid (b : Batch) (ts : List ℕ) : Type 0 where
+  pub starts : length ts ≡ b .n
+  pub delays : KeepsDelays b ts
+  pub stations : KeepsStations b ts
+
+-- t_i + p_i, for job i started at t_i
+unfoldable pub finish : Batch → ℕ → ℕ → ℕ
+finish b i t = t + ticks b i
+
+-- the largest t_i + p_i
+unfoldable pub latency : Batch → List ℕ → ℕ
+latency b ts = foldr max 0 (map (λ i. finish b i (start ts i)) (count 0 (b .n)))
+
+-- a valid plan, and every other valid plan has at least its latency
+pub record Shortest (b : Batch) (ts : List ℕ) : Type 0 where
+  pub valid : Valid b ts
+  pub least : (us : List ℕ) → Valid b us → latency b ts ≤ latency b us

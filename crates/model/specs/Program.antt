@@ -1,0 +1,33 @@
+-- The program `plan`: from the bytes of standard input to those of standard output.
+use Prim.Native.Nat.{ℕ, zero, suc}
+use mathlib.Core.List.{List}
+use lib.ListN.{take, replicate}
+use Rattle.model.specs.declared.Search.{Search}
+use Rattle.model.specs.declared.Ran.{Ran}
+use Rattle.model.specs.Common.{Outcome, refuse, accept, _>>=_}
+use Rattle.model.specs.Limits.{mostJobs, mostBudget}
+use Rattle.model.specs.Search.{freshSearch}
+use Rattle.model.specs.Open.{openFile}
+use Rattle.model.specs.Run.{ran}
+use Rattle.model.specs.Answers.{Verdict, spent, plan, noPlan, runTold}
+use Rattle.model.specs.Text.{planText, refusalLine}
+
+-- after a run: again while it is spent, and otherwise the text
+unfoldable pub goOn : (Search → Outcome (List ℕ)) → Search → Verdict → Outcome (List ℕ)
+goOn again s (spent total) = again s
+goOn again s (plan latency total) = planText s
+goOn again s (noPlan total) = planText s
+
+-- at most k runs with budgets of 1,000,000
+unfoldable pub planned : ℕ → Search → Outcome (List ℕ)
+planned zero s = refuse 14
+planned (suc k) s = let r = ran s mostBudget (replicate mostJobs 0) .0 in runTold (r .answer) >>= goOn (planned k) (r .search)
+
+-- prints the text, or BF and the refusal number
+unfoldable pub printed : Outcome (List ℕ) → List ℕ
+printed (accept text) = text
+printed (refuse k) = refusalLine k
+
+-- the first 65,536 bytes. 100 spent runs use up the limit on total, so that the 101st answers otherwise
+unfoldable pub program : List ℕ → List ℕ
+program input = printed (openFile (take 65536 input) >>= λ b. planned 101 (freshSearch b))

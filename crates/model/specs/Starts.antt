@@ -1,0 +1,61 @@
+-- Least starts (the earliest start times, longest-path potentials) of a list of inequalities t_j − t_i ≥ w over n jobs. An inequality
+-- is written as a delay from i to j of weight w.
+use Prim.Native.Nat.{ℕ, zero, suc, _+_, _-_, max, pred}
+use mathlib.Core.Bool.{Bool, true, false, _&&_}
+use mathlib.Core.List.{List, [], _∷_, map}
+use mathlib.Core.Option.{Option, none, some}
+use lib.ListN.{getD, replicate, length}
+use lib.IntN.{ℤ, pos, negsuc}
+use lib.Signed.{leZ}
+use lib.Dec.{eqb}
+use Rattle.model.specs.declared.Delay.{Delay}
+use Rattle.model.specs.Common.{count, if_then_else_}
+use Rattle.model.specs.Limits.{mostJobs}
+
+-- t + w, or 0 where that is below 0: it is only compared with a start, and no start is below 0
+unfoldable pub plus : ℕ → ℤ → ℕ
+plus t (pos k) = t + k
+plus t (negsuc k) = t - suc k
+
+-- start j after one more round: the largest of its old value and old t_i + w over the inequalities that end in it
+unfoldable pub raised : List Delay → List ℕ → ℕ → ℕ
+raised [] old j = getD old j 0
+raised (q ∷ qs) old j =
+    if eqb (q .to) j then max (plus (getD old (q .from) 0) (q .weight)) (raised qs old j) else raised qs old j
+
+-- the starts after k rounds: each comes from the starts after k − 1
+unfoldable pub rounds : List Delay → List ℕ → ℕ → List ℕ
+rounds qs first zero = first
+rounds qs first (suc k) = map (raised qs (rounds qs first k)) (count 0 (length first))
+
+unfoldable pub same : List ℕ → List ℕ → Bool
+same [] [] = true
+same [] (y ∷ ys) = false
+same (x ∷ xs) [] = false
+same (x ∷ xs) (y ∷ ys) = eqb x y && same xs ys
+
+-- after 0 rounds all starts are 0
+unfoldable pub firstStarts : ℕ → List ℕ
+firstStarts n = replicate n 0
+
+-- if round n still changes something, there are none; otherwise these are the least starts
+unfoldable pub leastStarts : ℕ → List Delay → Option (List ℕ)
+leastStarts n qs =
+    let last = rounds qs (firstStarts n) n in
+    if same last (rounds qs (firstStarts n) (pred n)) then some last else none
+
+-- ---- the working table
+
+-- the larger of a weight and what the place holds
+unfoldable pub heavier : ℤ → Option ℤ → ℤ
+heavier w none = w
+heavier w (some v) = if leZ v w then w else v
+
+-- the place for the pair (i, j): empty, or the largest weight of the inequalities from i to j
+unfoldable pub place : List Delay → ℕ → ℕ → Option ℤ
+place [] i j = none
+place (q ∷ qs) i j = if eqb (q .from) i && eqb (q .to) j then some (heavier (q .weight) (place qs i j)) else place qs i j
+
+-- 24 rows of 24 weights: row j has what ends in job j
+unfoldable pub table : List Delay → List (List (Option ℤ))
+table qs = map (λ j. map (λ i. place qs i j) (count 0 mostJobs)) (count 0 mostJobs)

@@ -1,0 +1,101 @@
+// The types that every room shares, and the record that an accepted opening starts from.
+ghost use mathlib.Core.Path.{_≡_};
+ghost use Rattle.model.specs.Search.{freshSearch};
+
+// A delay: `to` starts at least `weight` ticks after `from`.
+pub struct Delay {
+    pub from: u8,
+    pub to: u8,
+    pub weight: i16,
+}
+
+// A job's reservation table: bit s of masks[a] is set where the job holds station s in its tick a.
+pub struct Job {
+    pub ticks: u8,
+    pub masks: [u16; 16],
+}
+
+// The first n jobs and the first m delays count; the other places are never looked at.
+pub struct Batch {
+    pub n: u8,
+    pub m: u8,
+    pub jobs: [Job; 24],
+    pub delays: [Delay; 128],
+}
+
+// A branching decision: the clash's number in the batch's list, and the side that is taken.
+pub struct Turn {
+    pub clash: u16,
+    pub side: u8,
+}
+
+// The incumbent's latency. Its starts stand beside it, since an enum holds no array.
+pub enum Best {
+    Nothing,
+    Latency(u16),
+}
+
+pub struct Search {
+    pub batch: Batch,
+    pub path: [Turn; 1024],
+    pub best: Best,
+    pub starts: [u16; 24],
+    pub total: u32,
+    pub ended: bool,
+}
+
+// The answer of a run.
+pub enum Answer {
+    Spent(u32),
+    Plan(u16, u32),
+    NoPlan(u32),
+    Refused(u8),
+}
+
+pub struct Ran {
+    pub answer: Answer,
+    pub search: Search,
+}
+
+// The answer of opening.
+pub enum Opening {
+    Accepted,
+    Refused(u8),
+}
+
+pub struct Opened {
+    pub answer: Opening,
+    pub search: Search,
+}
+
+// The answer of writing: the number of bytes, or the refusal.
+pub enum Written {
+    Bytes(usize),
+    Refused(u8),
+}
+
+// The nodes visited and the nodes still allowed.
+pub struct Tally {
+    pub total: u32,
+    pub left: u32,
+}
+
+// A path's place without a turn.
+pub const EMPTY: Turn = Turn {
+    clash: 65535,
+    side: 0,
+};
+
+// The search of a batch before its first node.
+pub fn fresh(batch: Batch) -> Search
+    ensures { λ r. ⌜ r ≡ freshSearch batch ⌝ }
+{
+    Search {
+        batch: batch,
+        path: [EMPTY; 1024],
+        best: Best::Nothing,
+        starts: [0u16; 24],
+        total: 0,
+        ended: false,
+    }
+}
