@@ -1,0 +1,100 @@
+-- No least start passes 23,000, and no latency 23,016: a round raises a start by at most 1,000, and after round n − 1 nothing changes.
+use Prim.Native.Nat.{ℕ, zero, suc, _+_, _-_, _*_, _≤_, _<_, max, pred}
+use mathlib.Core.Path.{_≡_, refl, ap}
+use mathlib.Core.Bool.{true}
+use mathlib.Core.Logic.{_⊎_, inl, inr}
+use mathlib.Core.Option.{Option, some}
+use mathlib.Core.List.{List, [], _∷_, map, foldr, List·Memᴰ, List·Memᴰ·head, List·Memᴰ·tail}
+use native.Mathlib.Omega.{arith}
+use native.Mathlib.Decide.{decLt}
+use lib.IntN.{ℤ, pos, negsuc, subℕ, _+ℤ_, _-ℤ_}
+use lib.Signed.{leZ}
+use lib.Dec.{leb}
+use borrow.Author.Tests.{leb-true}
+use lib.ListN.{length, getD}
+use Rattle.model.specs.declared.Batch.{Batch}
+use Rattle.model.specs.declared.Delay.{Delay}
+use Rattle.model.specs.declared.Turn.{Turn}
+use Rattle.model.specs.Common.{count}
+use Rattle.model.specs.Limits.{mostStart, mostLatency}
+use Rattle.model.specs.Batch.{ticks, delaysOf}
+use Rattle.model.specs.Plan.{start, finish, latency}
+use Rattle.model.specs.Clash.{Clash, clashes}
+use Rattle.model.specs.Starts.{plus, raised, rounds, firstStarts, leastStarts}
+use Rattle.model.specs.Search.{sideOf, turned, inequalities, startsAt, noClash}
+use Rattle.model.proofs.ListLaws.{count-some}
+use Rattle.model.proofs.ClashLaws.{Shared, Listed}
+use Rattle.model.proofs.SideLaws.{le-sub, sub-pos, sub-neg}
+use Rattle.model.proofs.StartsLaws.{after, after-suc, after-out, raised-why, Why, reach, first-zero, least-round}
+use Rattle.model.proofs.NodeLaws.{Fits, Named, each, turn-listed}
+
+-- an inequality that raises a start by at most 1,000
+unfoldable pub Slow : Delay → Type 0
+Slow q = (t : ℕ) → plus t (q .weight) ≤ t + 1000
+
+pub after-bound : (qs : List Delay) (first : List ℕ) → ((j : ℕ) → getD first j 0 ≡ 0) → ((q : Delay) → List·Memᴰ q qs → Slow q) → (k j : ℕ) → after qs first k j ≤ k * 1000
+unfolding after rounds reach Slow
+after-bound qs first z slow zero j = omega (arith, z j)
+after-bound qs first z slow (suc k) j = go (decLt j (length first)) (after-bound qs first z slow k)
+  where
+    by : ((i : ℕ) → after qs first k i ≤ k * 1000) → (raised qs (rounds qs first k) j ≡ getD (rounds qs first k) j 0) ⊎ Why qs (rounds qs first k) j (raised qs (rounds qs first k) j) → raised qs (rounds qs first k) j ≤ suc k * 1000
+    by rec (inl e) = omega (arith, rec j)
+    by rec (inr w) = omega (arith, w .value, slow (w .why) (w .listed) (getD (rounds qs first k) (w .why .from) 0), rec (w .why .from))
+
+    go : Dec (j < length first) → ((i : ℕ) → after qs first k i ≤ k * 1000) → after qs first (suc k) j ≤ suc k * 1000
+    go (yes h) rec = omega (arith, after-suc qs first k j h, by rec (raised-why qs (rounds qs first k) j))
+    go (no h) rec = omega (arith, after-out qs first (suc k) j (omega arith))
+
+-- delays do, by their limits
+delay-slow : (w : ℤ) → leZ w (pos 1000) ≡ true → (t : ℕ) → plus t w ≤ t + 1000
+unfolding plus
+delay-slow (pos k) e t = omega (arith, leb-true k 1000 e)
+delay-slow (negsuc k) e t = omega arith
+
+-- turns do: a clash's distance is −15 to 15
+near : (a b : ℕ) (d : ℤ) → a < 16 → b < 16 → subℕ a b ≡ d → (t : ℕ) → (plus t (d +ℤ pos 1) ≤ t + 1000) × (plus t (pos 1 -ℤ d) ≤ t + 1000)
+unfolding plus
+near a b (pos zero) ha hb e t = (omega arith, omega arith)
+near a b (pos (suc k)) ha hb e t = (omega (arith, sub-pos a b (suc k) e), le-sub t (t + 1000) 1 (suc k) (omega arith))
+near a b (negsuc k) ha hb e t = (le-sub t (t + 1000) 1 (suc k) (omega arith), omega (arith, sub-neg a b k e))
+
+largest-bound : (f : ℕ → ℕ) (most : ℕ) (xs : List ℕ) → ((x : ℕ) → List·Memᴰ x xs → f x ≤ most) → foldr max 0 (map f xs) ≤ most
+largest-bound f most [] h = omega arith
+largest-bound f most (x ∷ xs) h =
+    omega (arith, h x (List·Memᴰ·head refl), largest-bound f most xs (λ y m. h y (List·Memᴰ·tail m)))
+
+module _ (b : Batch) (fits : Fits b) where
+  side-slow : (c : Clash) → Listed b c → (s : ℕ) → Slow (sideOf c s)
+  unfolding Slow sideOf
+  side-slow c l s t = pick s
+    where
+      both-near : (plus t (c .d +ℤ pos 1) ≤ t + 1000) × (plus t (pos 1 -ℤ c .d) ≤ t + 1000)
+      both-near =
+          near (l .shared .a) (l .shared .b) (c .d) (omega (arith, l .shared .a-in, fits .short (c .i) (omega (arith, l .rising, l .known))))
+          (omega (arith, l .shared .b-in, fits .short (c .j) (l .known))) (l .shared .distance) t
+
+      pick : (s : ℕ) → plus t (sideOf c s .weight) ≤ t + 1000
+      pick zero = both-near .0
+      pick (suc s) = both-near .1
+
+  all-slow : (ts : List Turn) → Named b ts → (q : Delay) → List·Memᴰ q (inequalities (clashes b) b ts) → Slow q
+  unfolding Named Slow turned
+  all-slow ts named =
+      each b fits Slow ts (λ q m. delay-slow (q .weight) (fits .slow q m))
+      (λ t m. side-slow (getD (clashes b) (t .clash) noClash) (turn-listed b fits t (named t m)) (t .side))
+
+  pub starts-bound : (ts : List Turn) → Named b ts → (ss : List ℕ) → startsAt (clashes b) b ts ≡ some ss → (j : ℕ) → start ss j ≤ mostStart
+  unfolding startsAt after start
+  starts-bound ts named ss e j =
+      omega (
+        arith,
+        after-bound (inequalities (clashes b) b ts) (firstStarts (b .n)) (first-zero (b .n)) (all-slow ts named) (pred (b .n)) j,
+        ap (λ (l : List ℕ). getD l j 0) (least-round (b .n) (inequalities (clashes b) b ts) ss e .1),
+        fits .jobs,
+      )
+
+  pub latency-bound : (ts : List Turn) → Named b ts → (ss : List ℕ) → startsAt (clashes b) b ts ≡ some ss → latency b ss ≤ mostLatency
+  unfolding latency finish
+  latency-bound ts named ss e =
+      largest-bound (λ i. start ss i + ticks b i) mostLatency (count 0 (b .n))
+      (λ i m. omega (arith, starts-bound ts named ss e i, fits .short i (omega (arith, count-some 0 (b .n) i m .1))))

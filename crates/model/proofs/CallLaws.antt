@@ -1,0 +1,314 @@
+-- Demand 3: whatever list of run calls a freshly opened search gets, its record is the one that 01's steps reach with the smaller of S and
+-- N nodes, and the last answer follows from it. An invariant that each call keeps.
+use Prim.Native.Nat.{ℕ, zero, suc, _+_, _-_, _≤_, _<_, min}
+use mathlib.Core.Path.{_≡_, refl, ap, ap₂, sym, _∙_, subst}
+use mathlib.Core.Logic.{_⊎_, inl, inr, _↔_}
+use mathlib.Core.Bool.{Bool, true, false, not, _&&_, _||_}
+use mathlib.Core.Option.{Option, none, some}
+use mathlib.Core.List.{List, [], _∷_, _++_}
+use native.Mathlib.Omega.{arith}
+use native.Mathlib.Decide.{decLt}
+use lib.ListN.{length, take, drop}
+use lib.Seq.{take-at}
+use lib.Dec.{leb, ltb}
+use borrow.Author.Tests.{leb-true, leb-false, le-leb, ltb-true, ltb-false, lt-ltb, le-ltb}
+use Rattle.model.specs.declared.Batch.{Batch}
+use Rattle.model.specs.declared.Best.{Best}
+use Rattle.model.specs.declared.Best.the-variants.{Nothing, Latency}
+use Rattle.model.specs.declared.Search.{Search}
+use Rattle.model.specs.declared.Answer.{Answer}
+use Rattle.model.specs.declared.Answer.the-variants.{Spent, Plan, NoPlan, Refused}
+use Rattle.model.specs.declared.Ran.{Ran}
+use Rattle.model.specs.Common.{if_then_else_, Outcome, refuse, accept, _>>=_, require}
+use Rattle.model.specs.Limits.{mostBudget, mostTotal}
+use Rattle.model.specs.Plan.{Valid, Shortest, latency}
+use Rattle.model.specs.Clash.{clashes}
+use Rattle.model.specs.Search.{Incumbent, placeOf, freshSearch, nodesOn, nodes, Ends}
+use Rattle.model.specs.Sound.{sound}
+use Rattle.model.specs.Run.{runRefusal, answerOf, startsAfter, answered, ranAs, ran}
+use Rattle.model.specs.Answers.{Verdict, spent, plan, noPlan, runTold, totalTold}
+use Rattle.model.specs.Calls.{Call, call, after, refuses, granted}
+use Rattle.model.specs.Demands.{Reached, AnswerFor, Demand3}
+use Rattle.model.proofs.ListLaws.{apart}
+use Rattle.model.proofs.NodeLaws.{Fits, BestLe}
+use Rattle.model.proofs.GoodLaws.{ValidBest}
+use Rattle.model.proofs.SoundLaws.{Passes, fits, sound-nodes}
+use Rattle.model.proofs.EndLaws.{End, best-valid, nodes-fresh, nodes-more, nodes-total, nodes-past, ends-not-before, fresh-total}
+
+-- ---- the table's tests, read either way
+
+le-not-lt : (x y : ℕ) → leb x y ≡ not (ltb y x)
+le-not-lt x y = go (ltb y x) refl
+  where
+    go : (p : Bool) → ltb y x ≡ p → leb x y ≡ not p
+    go true e = no (leb x y) refl (ltb-true y x e)
+      where
+        no : (q : Bool) → leb x y ≡ q → y < x → q ≡ false
+        no true f h = absurd (omega (arith, leb-true x y f))
+        no false f h = refl
+    go false e = le-leb x y (omega (arith, ltb-false y x e))
+
+-- 11 to 14 with 12 passed
+checked : Bool → Bool → Bool → Bool → Outcome (Unit {0})
+checked p q r t = do
+  _ ← require 11 (not p)
+  _ ← require 12 true
+  _ ← require 13 (not q)
+  require 14 (not r || not t)
+
+-- what a call's refusal is, where `refused` is what the table says
+abbrev pub Checked : Bool → Outcome (Unit {0}) → Type 0
+Checked true o = (k : ℕ) × (o ≡ refuse k)
+Checked false o = o ≡ accept tt
+
+checked-is : (p q r t : Bool) → Checked (p || q || (r && t)) (checked p q r t)
+unfolding checked _>>=_ require
+checked-is true q r t = (11, refl)
+checked-is false true r t = (13, refl)
+checked-is false false true true = (14, refl)
+checked-is false false true false = refl
+checked-is false false false t = refl
+
+module _ (b : Batch) (passes : Passes b) (n : ℕ) (end : End b (fits b passes) n) where
+  -- the record after k of 01's steps
+  abbrev pub at : ℕ → Search
+  at k = nodes k (freshSearch b)
+
+  pub at-batch : (k : ℕ) → at k .batch ≡ b
+  at-batch k = ap (λ (s : Search). s .batch) (nodes-fresh b (fits b passes) k) ∙ best-valid b (fits b passes) k .batch
+
+  at-min : (k : ℕ) → at k ≡ at (min k n)
+  at-min k = go (decLt k n)
+    where
+      go : Dec (k < n) → at k ≡ at (min k n)
+      go (yes h) = let z : k ≡ min k n = omega arith in ap at z
+      go (no h) = let z : n ≡ min k n = omega arith in nodes-past b (fits b passes) n k (end .ends) (omega arith) ∙ ap at z
+
+  -- j nodes on from k
+  at-more : (k j : ℕ) → nodes j (at k) ≡ at (k + j)
+  unfolding nodes
+  at-more k j =
+      ap (λ (c : Batch). nodesOn (clashes c) j (at k)) (at-batch k) ∙ ap (nodesOn (clashes b) j) (nodes-fresh b (fits b passes) k)
+      ∙ sym (nodes-more b (fits b passes) k j (freshSearch b)) ∙ sym (nodes-fresh b (fits b passes) (k + j))
+
+  at-ended : (s : ℕ) → at (min s n) .ended ≡ not (ltb s n)
+  at-ended s = go (ltb s n) refl
+    where
+      go : (p : Bool) → ltb s n ≡ p → at (min s n) .ended ≡ not p
+      go true e = ends-not-before b (fits b passes) n (min s n) (end .ends) (omega (arith, ltb-true s n e))
+      go false e = let z : min s n ≡ n = omega (arith, ltb-false s n e) in ap (λ (k : ℕ). at k .ended) z ∙ end .ends .ended
+
+  at-total : (s : ℕ) → at (min s n) .total ≡ min s n
+  at-total s = go (decLt s n)
+    where
+      go : Dec (s < n) → at (min s n) .total ≡ min s n
+      go (yes h) =
+          let e = nodes-fresh b (fits b passes) (min s n) in
+          ap (λ (r : Search). r .total) e
+          ∙ nodes-total b (fits b passes) (min s n) (freshSearch b) .1
+          (ap (λ (r : Search). r .ended) (sym e) ∙ ends-not-before b (fits b passes) n (min s n) (end .ends) (omega arith))
+          ∙ omega (arith, fresh-total b)
+      go (no h) = let z : min s n ≡ n = omega arith in ap (λ (k : ℕ). at k .total) z ∙ end .ends .total ∙ sym z
+
+  pub reached-at : (s : ℕ) → Reached b n s (at (min s n))
+  reached-at s = record { is = refl; total = at-total s; unfinished = (λ e. below (ltb s n) refl (sym (at-ended s) ∙ e), λ h. at-ended s ∙ ap not (lt-ltb s n h)) }
+    where
+      below : (p : Bool) → ltb s n ≡ p → not p ≡ false → s < n
+      below true e h = ltb-true s n e
+      below false e h = apart (sym h)
+
+  -- what the invariant keeps beside the record: it is sound
+  abbrev pub SoundThere : ℕ → Type 0
+  SoundThere s = sound (at (min s n)) ≡ true
+
+  -- ---- the answer that a record gives
+
+  -- by cases of what the record says: ended, best, total and starts
+  answer-by :
+      (s : ℕ) (e : Bool) (best : Best) (total m : ℕ) (starts list : List ℕ) → e ≡ not (ltb s n) → total ≡ min s n → m ≡ b .n
+      → (n ≤ s → ValidBest b (record { best = best; starts = starts }) × ((us : List ℕ) → Valid b us → BestLe b (fits b passes) best (latency b us)))
+      → AnswerFor b n s (runTold (answerOf e best total)) (startsAfter (answerOf e best total) m starts list)
+  unfolding answerOf runTold startsAfter totalTold
+  answer-by s false best total m starts list e t q h =
+      let below : s < n = lower (ltb s n) refl e in
+      record {
+        verdict = spent total;
+        answered = refl;
+        total = t;
+        is-spent = (λ x. below, λ x. (total, refl));
+        is-plan = λ g us v. absurd (omega arith);
+        is-none = λ g f. absurd (omega arith);
+        shortest = λ l k f. let z : _≡_ {A = ℕ} 0 1 = cc in absurd (omega arith);
+      }
+    where
+      lower : (p : Bool) → ltb s n ≡ p → false ≡ not p → s < n
+      lower true f g = ltb-true s n f
+      lower false f g = apart g
+  answer-by s true Nothing total m starts list e t q h =
+      let above : n ≤ s = upper (ltb s n) refl e in
+      let all : total ≡ n = omega arith in
+      record {
+        verdict = noPlan total;
+        answered = refl;
+        total = t;
+        is-spent = (λ x. let z : _≡_ {A = ℕ} 0 1 = cc (x .1) in absurd (omega arith), λ x. absurd (omega arith));
+        is-plan = λ g us v. absurd (h above .1 us v);
+        is-none = λ g f. ap noPlan all;
+        shortest = λ l k f. let z : _≡_ {A = ℕ} 0 1 = cc in absurd (omega arith);
+      }
+    where
+      upper : (p : Bool) → ltb s n ≡ p → true ≡ not p → n ≤ s
+      upper true f g = apart (sym g)
+      upper false f g = omega (arith, ltb-false s n f)
+  answer-by s true (Latency l) total m starts list e t q h =
+      let above : n ≤ s = upper (ltb s n) refl e in
+      let all : total ≡ n = omega arith in
+      let v = h above .0 in
+      let placed : take (b .n) (take m starts ++ drop m list) ≡ take (b .n) starts =
+      ap (λ (k : ℕ). take (b .n) (take k starts ++ drop k list)) q ∙ take-at (take (b .n) starts) (drop (b .n) list) (b .n) (v .0 .starts) in
+      record {
+        verdict = plan l total;
+        answered = refl;
+        total = t;
+        is-spent = (λ x. let z : _≡_ {A = ℕ} 0 1 = cc (x .1) in absurd (omega arith), λ x. absurd (omega arith));
+        is-plan = λ g us v. (l, ap (plan l) all);
+        is-none = λ g f. absurd (f (take (b .n) starts) (v .0));
+        shortest = λ k j f.
+            let z : l ≡ k = cc in (
+              subst (Shortest b) (sym placed) (record { valid = v .0; least = λ us w. omega (arith, h above .1 us w, v .1) }),
+              ap (latency b) placed ∙ v .1 ∙ z,
+            );
+      }
+    where
+      upper : (p : Bool) → ltb s n ≡ p → true ≡ not p → n ≤ s
+      upper true f g = apart (sym g)
+      upper false f g = omega (arith, ltb-false s n f)
+
+  answer-at : (s : ℕ) (list : List ℕ) → AnswerFor b n s (runTold (answered (at (min s n)) list .0 .answer)) (answered (at (min s n)) list .1)
+  unfolding answered placeOf
+  answer-at s list =
+      answer-by s (at (min s n) .ended) (at (min s n) .best) (at (min s n) .total) (at (min s n) .batch .n) (at (min s n) .starts) list
+      (at-ended s) (at-total s) (ap (λ (x : Batch). x .n) (at-batch (min s n))) at-end
+    where
+      at-end : n ≤ s → ValidBest b (record { best = at (min s n) .best; starts = at (min s n) .starts }) × ((us : List ℕ) → Valid b us → BestLe b (fits b passes) (at (min s n) .best) (latency b us))
+      at-end h =
+          let z : n ≡ min s n = omega arith in
+          subst (λ (k : ℕ). ValidBest b (record { best = at k .best; starts = at k .starts }) × ((us : List ℕ) → Valid b us → BestLe b (fits b passes) (at k .best) (latency b us))) z
+          (end .valid, end .shortest)
+
+  -- ---- one call
+
+  module _ (s : ℕ) (c : Call) (there : SoundThere s) where
+    refusal-is : runRefusal (at (min s n)) (c .budget) (length (c .starts)) ≡ checked (ltb mostBudget (c .budget)) (ltb (length (c .starts)) (b .n)) (ltb s n) (ltb mostTotal (min s n + c .budget))
+    unfolding runRefusal checked
+    refusal-is =
+        rw (
+          le-not-lt (c .budget) mostBudget,
+          there,
+          ap (λ (x : Batch). x .n) (at-batch (min s n)),
+          le-not-lt (b .n) (length (c .starts)),
+          at-ended s,
+          at-total s,
+          le-not-lt (min s n + c .budget) mostTotal,
+        )
+
+    pub call-checked : Checked (refuses b n s c) (runRefusal (at (min s n)) (c .budget) (length (c .starts)))
+    unfolding refuses
+    call-checked = rw refusal-is (checked-is (ltb mostBudget (c .budget)) (ltb (length (c .starts)) (b .n)) (ltb s n) (ltb mostTotal (min s n + c .budget)))
+
+    -- S after the call
+    abbrev pub then : ℕ
+    then = if refuses b n s c then s else s + c .budget
+
+    -- a call that is not refused visits nodes up to the smaller of the new S and N
+    moved : nodes (c .budget) (at (min s n)) ≡ at (min (s + c .budget) n)
+    moved =
+        let z : min (min s n + c .budget) n ≡ min (s + c .budget) n = omega arith in
+        at-more (min s n) (c .budget) ∙ at-min (min s n + c .budget) ∙ ap at z
+
+    -- what one call does: the record, its soundness, whether it is refused, and its answer
+    pub record Called (p : Bool) : Type 0 where
+      pub search : call (at (min s n)) c .0 .search ≡ at (min (if p then s else s + c .budget) n)
+      pub sound : SoundThere (if p then s else s + c .budget)
+      pub refused : (p ≡ true) ↔ ((k : ℕ) × (runTold (call (at (min s n)) c .0 .answer) ≡ refuse k))
+      pub answer : p ≡ false → AnswerFor b n (if p then s else s + c .budget) (runTold (call (at (min s n)) c .0 .answer)) (call (at (min s n)) c .1)
+
+    -- what the table leaves of 14: ended, or room for the budget
+    room : (p : Bool) → (ltb mostBudget (c .budget) || ltb (length (c .starts)) (b .n) || (ltb s n && p)) ≡ false → p ≡ ltb mostTotal (min s n + c .budget) → (at (min s n) .ended ≡ true) ⊎ (at (min s n) .total + c .budget ≤ mostTotal)
+    room p e f = go (ltb mostBudget (c .budget)) (ltb (length (c .starts)) (b .n)) (ltb s n) refl p e f
+      where
+        go : (x y r : Bool) → ltb s n ≡ r → (t : Bool) → (x || y || (r && t)) ≡ false → t ≡ ltb mostTotal (min s n + c .budget) → (at (min s n) .ended ≡ true) ⊎ (at (min s n) .total + c .budget ≤ mostTotal)
+        go true y r g t e f = apart (sym e)
+        go false true r g t e f = apart (sym e)
+        go false false true g true e f = apart (sym e)
+        go false false true g false e f = inr (omega (arith, ltb-false mostTotal (min s n + c .budget) (sym f), at-total s))
+        go false false false g t e f = inl (at-ended s ∙ ap not g)
+
+    called-by : (p : Bool) → refuses b n s c ≡ p → Checked p (runRefusal (at (min s n)) (c .budget) (length (c .starts))) → Called p
+    unfolding if_then_else_ call ran ranAs runTold answered refuses
+    called-by true e (k, f) =
+        let whole : call (at (min s n)) c ≡ ranAs (refuse k) (at (min s n)) (c .budget) (c .starts) = ap (λ o. ranAs o (at (min s n)) (c .budget) (c .starts)) f in
+        record {
+          search = ap (λ (x : Ran × List ℕ). x .0 .search) whole;
+          sound = there;
+          refused = (λ h. (k, ap (λ (x : Ran × List ℕ). runTold (x .0 .answer)) whole), λ h. refl);
+          answer = λ h. apart (sym h);
+        }
+    called-by false e f =
+        let whole : call (at (min s n)) c ≡ answered (at (min (s + c .budget) n)) (c .starts) =
+        ap (λ o. ranAs o (at (min s n)) (c .budget) (c .starts)) f ∙ ap (λ (r : Search). answered r (c .starts)) moved in
+        let told = answer-at (s + c .budget) (c .starts) in
+        record {
+          search = ap (λ (x : Ran × List ℕ). x .0 .search) whole;
+          sound = ap sound (sym moved) ∙ sound-nodes (c .budget) (at (min s n)) there (room (ltb mostTotal (min s n + c .budget)) e refl);
+          refused = (λ h. apart h, λ h. never (h .0) (told .verdict) (sym (ap (λ (x : Ran × List ℕ). runTold (x .0 .answer)) whole ∙ told .answered) ∙ h .1));
+          answer = λ h. subst (λ (x : Ran × List ℕ). AnswerFor b n (s + c .budget) (runTold (x .0 .answer)) (x .1)) (sym whole) told;
+        }
+      where
+        never : (k : ℕ) (v : Verdict) → accept v ≡ refuse k → false ≡ true
+        never k v e = let z : _≡_ {A = ℕ} 0 1 = cc in absurd (omega arith)
+
+    pub called : Called (refuses b n s c)
+    called = called-by (refuses b n s c) refl call-checked
+
+  -- ---- every list of calls
+
+  -- the record after the list, from S = s on
+  after-at : (s : ℕ) (cs : List Call) → SoundThere s → (after (at (min s n)) cs ≡ at (min (granted b n s cs) n)) × SoundThere (granted b n s cs)
+  unfolding after granted
+  after-at s [] h = (refl, h)
+  after-at s (c ∷ cs) h =
+      let d = called s c h in
+      let r = after-at (if refuses b n s c then s else s + c .budget) cs (d .sound) in
+      (ap (λ (x : Search). after x cs) (d .search) ∙ r .0, r .1)
+
+  granted-last : (s : ℕ) (cs : List Call) (c : Call) → granted b n s (cs ++ (c ∷ [])) ≡ (if refuses b n (granted b n s cs) c then granted b n s cs else granted b n s cs + c .budget)
+  unfolding granted
+  granted-last s [] c = refl
+  granted-last s (d ∷ cs) c = granted-last (if refuses b n s d then s else s + d .budget) cs c
+
+  module _ (fresh-sound : sound (freshSearch b) ≡ true) where
+    at-zero : at (min 0 n) ≡ freshSearch b
+    unfolding nodes nodesOn
+    at-zero = let z : min 0 n ≡ 0 = omega arith in ap at z
+
+    -- the record after any list of calls on the fresh search, and that it is sound
+    pub after-fresh : (cs : List Call) → (after (freshSearch b) cs ≡ at (min (granted b n 0 cs) n)) × SoundThere (granted b n 0 cs)
+    after-fresh cs =
+        let r = after-at 0 cs (ap sound at-zero ∙ fresh-sound) in
+        (ap (λ (x : Search). after x cs) (sym at-zero) ∙ r .0, r .1)
+
+    pub lists-reach : (cs : List Call) → Demand3 b n cs
+    lists-reach cs =
+        record {
+          reached = subst (Reached b n (granted b n 0 cs)) (sym (after-fresh cs .0)) (reached-at (granted b n 0 cs));
+          refused = λ before c e. subst (λ (x : Search). (refuses b n (granted b n 0 before) c ≡ true) ↔ ((k : ℕ) × (runTold (call x c .0 .answer) ≡ refuse k))) (sym (after-fresh before .0)) (called (granted b n 0 before) c (after-fresh before .1) .refused);
+          last = λ before c e f. last before c e f;
+        }
+      where
+        last : (before : List Call) (c : Call) → cs ≡ before ++ (c ∷ []) → refuses b n (granted b n 0 before) c ≡ false → AnswerFor b n (granted b n 0 cs) (runTold (call (after (freshSearch b) before) c .0 .answer)) (call (after (freshSearch b) before) c .1)
+        last before c e f =
+            subst (λ (k : ℕ). AnswerFor b n k (runTold (call (after (freshSearch b) before) c .0 .answer)) (call (after (freshSearch b) before) c .1))
+            (sym (ap (granted b n 0) e ∙ granted-last 0 before c))
+            (subst (λ (x : Search). AnswerFor b n (if refuses b n (granted b n 0 before) c then granted b n 0 before else granted b n 0 before + c .budget) (runTold (call x c .0 .answer)) (call x c .1))
+            (sym (after-fresh before .0)) (called (granted b n 0 before) c (after-fresh before .1) .answer f))

@@ -1,0 +1,22 @@
+-- The laws about the definitions: pure mathematics, no code. Each depends only on those above it.
+pub mod ListLaws
+pub mod OutcomeLaws
+pub mod PlusLaws
+pub mod SideLaws
+pub mod StartsLaws
+pub mod ClashLaws
+pub mod OrderLaws
+pub mod BackLaws
+pub mod NodeLaws
+pub mod GoodLaws
+pub mod BoundLaws
+pub mod EndLaws
+pub mod SoundLaws
+pub mod CallLaws
+pub mod LineLaws
+pub mod LimitLaws
+pub mod ReadLaws
+pub mod FrameLaws
+pub mod FileLaws
+pub mod LeaveLaws
+pub mod OpenLaws
