@@ -179,7 +179,7 @@ job-framing = record { back = back; forth = forth }
     back f j small e =
         let s = require-accepts 2 _ _ j e in
         let t = require-accepts 4 _ _ j (s .1) in
-        let k = frame-iff 0xA1 (2 + 2 * at f 1) f .0 (both (leb 2 (length f)) (frameIs 0xA1 (2 + 2 * at f 1) f) (s .0) .1) in
+        let k = frame-iff 0xA1 (2 + 2 * at f 1) f .0 (s .0) in
         let d = job-split (at f 1) f small (k .1) in
         let w = wides-back (at f 1) (drop 2 f) (d .2) (d .1) in
         let m = masks-in f (w .1) in
@@ -195,7 +195,7 @@ job-framing = record { back = back; forth = forth }
         let w = wides-two (masksOf j) (h .1) in
         let size : length f ≡ 2 + 2 * j .ticks = omega (arith, w .1, masks-length j) in (
           each-cons IsByte (omega arith) (each-cons IsByte (omega arith) (w .0)),
-          accepts-require 2 _ (and (le-leb 2 (length f) (omega arith)) (frame-iff 0xA1 (2 + 2 * j .ticks) f .1 (refl, size)))
+          accepts-require 2 _ (frame-iff 0xA1 (2 + 2 * j .ticks) f .1 (refl, size))
               ∙ accepts-require 4 _ (h .0)
               ∙ ap (λ (ms : List ℕ). accept (record { ticks = j .ticks; masks = pad mostTicks 0 ms })) (w .2),
         )

@@ -1,13 +1,14 @@
 -- Demand 1: what each call leaves, read off the definitions. A refusal leaves everything; a run touches the starts list only with a plan;
 -- writing touches the buffer's first bytes only.
-use Prim.Native.Nat.{ℕ, zero, suc, _≤_}
+use Prim.Native.Nat.{ℕ, zero, suc, _+_, _≤_}
 use mathlib.Core.Path.{_≡_, refl, ap, sym, _∙_}
-use mathlib.Core.Bool.{Bool, true, false}
+use mathlib.Core.Bool.{Bool, true, false, _||_}
+use mathlib.Core.Logic.{_⊎_, inl, inr}
 use mathlib.Core.List.{List, _++_}
 use native.Mathlib.Omega.{arith}
 use lib.ListN.{length, take, drop}
 use lib.Dec.{leb}
-use borrow.Author.Tests.{leb-true}
+use borrow.Author.Tests.{leb-true, leb-false}
 use Rattle.model.specs.declared.Batch.{Batch}
 use Rattle.model.specs.declared.Best.{Best}
 use Rattle.model.specs.declared.Best.the-variants.{Nothing, Latency}
@@ -20,26 +21,24 @@ use Rattle.model.specs.Common.{Outcome, refuse, accept, _>>=_, require}
 use Rattle.model.specs.Clash.{Clash, clashes}
 use Rattle.model.specs.Search.{freshSearch, node, searchOf, nodesOn, nodes}
 use Rattle.model.specs.Open.{openFile, openedAs, opened, blankSearch}
+use Rattle.model.specs.Limits.{mostBudget, mostTotal}
+use Rattle.model.specs.Sound.{sound}
 use Rattle.model.specs.Run.{runRefusal, answerOf, startsAfter, answered, ranAs, ran}
 use Rattle.model.specs.Answers.{Verdict, spent, plan, noPlan, runTold, openTold, writeTold}
 use Rattle.model.specs.Text.{fitting, writtenAs, written}
 use Rattle.model.specs.Demands.{OpeningLeaves, RunLeaves, WritingLeaves, Demand1}
-use Rattle.model.proofs.OutcomeLaws.{refused, accept-eq}
+use Rattle.model.proofs.OutcomeLaws.{refused, refuse-as, accept-eq, require-accepts}
+use Rattle.model.proofs.SoundLaws.{sound-nodes}
 
 -- ---- opening
 
 opening-leaves : (file : List ℕ) → OpeningLeaves file
 unfolding opened openedAs openTold
 opening-leaves file =
-    record { refused = λ k. blank (openFile file) k; accepted = yields (openFile file) }
-  where
-    blank : (o : Outcome Batch) (k : ℕ) → openTold (openedAs o .answer) ≡ refuse k → openedAs o .search ≡ blankSearch
-    blank (refuse j) k e = refl
-    blank (accept b) k e = refused (sym e)
-
-    yields : (o : Outcome Batch) → openTold (openedAs o .answer) ≡ accept tt → (b : Batch) × (openedAs o .search ≡ freshSearch b)
-    yields (refuse j) e = refused e
-    yields (accept b) e = (b, refl)
+    record {
+      refused = λ k e. (ap (λ (o : Outcome Batch). openTold (openedAs o .answer)) e, ap (λ (o : Outcome Batch). openedAs o .search) e);
+      accepted = λ b e. (ap (λ (o : Outcome Batch). openTold (openedAs o .answer)) e, ap (λ (o : Outcome Batch). openedAs o .search) e);
+    }
 
 -- ---- running
 
@@ -58,7 +57,6 @@ nodes-batch cs (suc k) s = go (s .ended) (nodes-batch cs k (node cs s))
 
 -- what an answer says of the list that it leaves
 record Listed (n : ℕ) (starts list : List ℕ) (a : Answer) : Type 0 where
-  accepted : (k : ℕ) → runTold a ≡ refuse k → ⊥
   spent-list : (t : ℕ) → runTold a ≡ accept (spent t) → startsAfter a n starts list ≡ list
   none-list : (t : ℕ) → runTold a ≡ accept (noPlan t) → startsAfter a n starts list ≡ list
   plan-list : (l t : ℕ) → runTold a ≡ accept (plan l t) → startsAfter a n starts list ≡ take n starts ++ drop n list
@@ -67,70 +65,88 @@ listed : (ended : Bool) (best : Best) (total n : ℕ) (starts list : List ℕ) �
 unfolding answerOf runTold startsAfter
 listed false best total n starts list =
     record {
-      accepted = λ k e. refused (sym e);
       spent-list = λ t e. refl;
       none-list = λ t e. refl;
       plan-list = λ l t e. let z : _≡_ {A = ℕ} 0 1 = cc in absurd (omega arith);
     }
 listed true Nothing total n starts list =
     record {
-      accepted = λ k e. refused (sym e);
       spent-list = λ t e. refl;
       none-list = λ t e. refl;
       plan-list = λ l t e. let z : _≡_ {A = ℕ} 0 1 = cc in absurd (omega arith);
     }
 listed true (Latency m) total n starts list =
     record {
-      accepted = λ k e. refused (sym e);
       spent-list = λ t e. let z : _≡_ {A = ℕ} 0 1 = cc in absurd (omega arith);
       none-list = λ t e. let z : _≡_ {A = ℕ} 0 1 = cc in absurd (omega arith);
       plan-list = λ l t e. refl;
     }
 
-running-leaves : (s : Search) (budget : ℕ) (list : List ℕ) → RunLeaves s budget list (ran s budget list .0) (ran s budget list .1)
-unfolding ran ranAs answered nodes runTold
-running-leaves s budget list = by (runRefusal s budget (length list))
+-- a run that is not refused continues a sound record, within its limit
+run-sound : (s : Search) (budget len : ℕ) → runRefusal s budget len ≡ accept tt → (sound s ≡ true) × ((s .ended ≡ true) ⊎ (s .total + budget ≤ mostTotal))
+unfolding runRefusal require
+run-sound s budget len e =
+    let f = require-accepts 11 (leb budget mostBudget) _ tt e in
+    let g = require-accepts 12 (sound s) _ tt (f .1) in
+    let h = require-accepts 13 (leb (s .batch .n) len) _ tt (g .1) in
+    (g .0, room (s .ended) refl (leb (s .total + budget) mostTotal) refl (h .1))
   where
-    by : (o : Outcome (Unit {0})) → RunLeaves s budget list (ranAs o s budget list .0) (ranAs o s budget list .1)
-    by (refuse k) =
+    room : (p : Bool) → s .ended ≡ p → (q : Bool) → leb (s .total + budget) mostTotal ≡ q → require 14 (p || q) ≡ accept tt → (s .ended ≡ true) ⊎ (s .total + budget ≤ mostTotal)
+    room true e q f g = inl e
+    room false e true f g = inr (leb-true (s .total + budget) mostTotal f)
+    room false e false f g = refused g
+
+running-leaves : (s : Search) (budget : ℕ) (list : List ℕ) → RunLeaves s budget list (ran s budget list .0) (ran s budget list .1)
+unfolding ran ranAs answered runTold nodes
+running-leaves s budget list = by (runRefusal s budget (length list)) refl
+  where
+    by : (o : Outcome (Unit {0})) → runRefusal s budget (length list) ≡ o → RunLeaves s budget list (ranAs o s budget list .0) (ranAs o s budget list .1)
+    by (refuse k) e =
         record {
-          refused = λ j e. (refl, refl);
+          refused = λ j f. (refuse-as (sym e ∙ f), refl, refl);
+          reached = λ f. refused (sym e ∙ f);
           batch = refl;
-          spent-list = λ t e. refl;
-          none-list = λ t e. refl;
-          plan-list = λ l t e. refused-told k e;
+          sound-kept = refl;
+          spent-list = λ t f. refl;
+          none-list = λ t f. refl;
+          plan-list = λ l t f. refused f;
         }
-      where
-        refused-told : (k : ℕ) {v : Verdict} {X : Type 0} → runTold (Refused k) ≡ accept v → X
-        refused-told k e = refused e
-    by (accept u) =
+    by (accept u) e =
         let r = nodes budget s in
         let same : r .batch ≡ s .batch = nodes-batch (clashes (s .batch)) budget s in
         let l = listed (r .ended) (r .best) (r .total) (r .batch .n) (r .starts) list in
+        let k = run-sound s budget (length list) e in
         record {
-          refused = λ k e. absurd (l .accepted k e);
+          refused = λ j f. refused (sym (sym e ∙ f));
+          reached = λ f. (refl, refl);
           batch = same;
+          sound-kept = sound-nodes budget s (k .0) (k .1) ∙ sym (k .0);
           spent-list = l .spent-list;
           none-list = l .none-list;
-          plan-list = λ x t e. l .plan-list x t e ∙ ap (λ (b : Batch). take (b .n) (r .starts) ++ drop (b .n) list) same;
+          plan-list = λ x t f. l .plan-list x t f ∙ ap (λ (b : Batch). take (b .n) (r .starts) ++ drop (b .n) list) same;
         }
 
 -- ---- writing
 
 writing-leaves : (text : Outcome (List ℕ)) (buffer : List ℕ) → WritingLeaves text buffer (written text buffer .0) (written text buffer .1)
 unfolding written writtenAs writeTold fitting _>>=_ require
-writing-leaves (refuse k) buffer = record { refused = λ j e. refl; bytes = λ j e. refused e }
+writing-leaves (refuse k) buffer =
+    record { refused = λ j e. (refuse-as e, refl); long = λ t e h. refused e; fits = λ t e h. refused e }
 writing-leaves (accept t) buffer = by (leb (length t) (length buffer)) refl
   where
     by : (p : Bool) → leb (length t) (length buffer) ≡ p → WritingLeaves (accept t) buffer (writtenAs (require 16 p >>= λ x. accept t) buffer .0) (writtenAs (require 16 p >>= λ x. accept t) buffer .1)
     by true h =
         record {
           refused = λ k e. refused (sym e);
-          bytes = λ k e.
-              let z : length t ≡ k = accept-eq e in
-              (t, refl, z, omega (arith, leb-true (length t) (length buffer) h), ap (λ (i : ℕ). t ++ drop i buffer) z);
+          long = λ u e g. absurd (omega (arith, leb-true (length t) (length buffer) h, ap length (accept-eq e)));
+          fits = λ u e g. let z : t ≡ u = accept-eq e in (ap (λ (x : List ℕ). accept (length x)) z, ap (λ (x : List ℕ). x ++ drop (length x) buffer) z);
         }
-    by false h = record { refused = λ k e. refl; bytes = λ k e. refused e }
+    by false h =
+        record {
+          refused = λ k e. refused (sym e);
+          long = λ u e g. (refl, refl);
+          fits = λ u e g. absurd (omega (arith, leb-false (length t) (length buffer) h, ap length (accept-eq e)));
+        }
 
 -- ---- the demand
 

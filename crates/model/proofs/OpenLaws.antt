@@ -7,7 +7,8 @@ use mathlib.Core.Bool.{Bool, true, false}
 use mathlib.Core.Option.{Option, none, some}
 use mathlib.Core.List.{List, [], _∷_, _++_, List·Memᴰ}
 use native.Mathlib.Omega.{arith}
-use lib.ListN.{length, take}
+use lib.ListN.{length, take, drop}
+use lib.Seq.{take-at}
 use lib.Dec.{leb}
 use borrow.Author.Tests.{leb-true, le-leb}
 use Rattle.model.specs.declared.Batch.{Batch}
@@ -18,6 +19,9 @@ use Rattle.model.specs.declared.Search.{Search}
 use Rattle.model.specs.declared.Opening.{Opening}
 use Rattle.model.specs.declared.Opening.the-variants.{Accepted}
 use Rattle.model.specs.declared.Opened.{Opened}
+use Rattle.model.specs.declared.Written.{Written}
+use Rattle.model.specs.declared.Written.the-variants.{Bytes}
+use Rattle.model.specs.declared.Ran.{Ran}
 use Rattle.model.specs.Common.{count, all, isSome, Outcome, refuse, accept, _>>=_, require}
 use Rattle.model.specs.Limits.{mostClashes, mostTotal}
 use Rattle.model.specs.Batch.{ticks, delaysOf}
@@ -28,10 +32,11 @@ use Rattle.model.specs.Search.{Place, placeOf, searchOf, freshPlace, fre
 use Rattle.model.specs.Format.{Within, batchFile, blanked, BatchFile}
 use Rattle.model.specs.Open.{ticksOk, jobsOk, weightOk, fewClashes, delaysMet, readFile, openFile, openedAs, opened}
 use Rattle.model.specs.Sound.{soundBest, sound}
-use Rattle.model.specs.Text.{batchText}
-use Rattle.model.specs.Answers.{openTold, bestTold}
-use Rattle.model.specs.Calls.{Call, after, granted}
-use Rattle.model.specs.Demands.{BestValid, Demand2, Demand3, demand3}
+use Rattle.model.specs.Run.{runRefusal, answerOf, ran}
+use Rattle.model.specs.Text.{planLines, planText, batchText, fitting, writtenAs, written}
+use Rattle.model.specs.Answers.{Verdict, plan, runTold, openTold, bestTold}
+use Rattle.model.specs.Calls.{Call, call, after, granted}
+use Rattle.model.specs.Demands.{PlanWith, RunLeaves, Demand2, demand2, Demand3, demand3}
 use Rattle.model.proofs.ListLaws.{apart, each-all, count-some}
 use Rattle.model.proofs.OutcomeLaws.{refused, accept-eq}
 use Rattle.model.proofs.StartsLaws.{Inside, least-length, least-keeps, least-found}
@@ -42,6 +47,7 @@ use Rattle.model.proofs.SoundLaws.{Passes, fits, place-sound}
 use Rattle.model.proofs.CallLaws.{after-fresh, lists-reach, at-batch}
 use Rattle.model.proofs.LimitLaws.{LimitsOk, within-limits}
 use Rattle.model.proofs.FileLaws.{read-format, open-read}
+use Rattle.model.proofs.LeaveLaws.{demand-1}
 
 -- ---- refusal 10: delays can be met exactly when some starts keep them
 
@@ -133,16 +139,12 @@ demand-3 file b e =
 
 -- ---- demand 2
 
+after-append : (s : Search) (cs : List Call) (c : Call) → after s (cs ++ (c ∷ [])) ≡ call (after s cs) c .0 .search
+unfolding after
+after-append s [] c = refl
+after-append s (d ∷ cs) c = after-append (call s d .0 .search) cs c
+
 module _ (file : List ℕ) (b : Batch) (f : BatchFile file b) where
-  text-back : (s : Search) → s .batch ≡ b → sound s ≡ true → batchText s ≡ accept file
-  unfolding batchText require _>>=_
-  text-back s q e = rw e (ap (λ (c : Batch). accept (batchFile c)) q ∙ ap accept (sym (f .text)))
-
-  valid-best : (best : Best) (starts : List ℕ) → ValidBest b (record { best = best; starts = starts }) → (l : ℕ) → bestTold best ≡ some l → Valid b (take (b .n) starts) × (latency b (take (b .n) starts) ≡ l)
-  unfolding bestTold
-  valid-best Nothing starts v l e = let z : _≡_ {A = ℕ} 0 1 = cc in absurd (omega arith)
-  valid-best (Latency k) starts v l e = let z : k ≡ l = cc in (v .0, v .1 ∙ z)
-
   abbrev passes : Passes b
   passes = file-passes file b f
 
@@ -152,33 +154,89 @@ module _ (file : List ℕ) (b : Batch) (f : BatchFile file b) where
   abbrev end : End b (fits b passes) n
   end = file-ends file b f .1
 
-  -- the record after a list of calls: it is sound, and some number of nodes on
-  after-list : (cs : List Call) → (sound (after (freshSearch b) cs) ≡ true) × ((k : ℕ) × (after (freshSearch b) cs ≡ nodes k (freshSearch b)))
+  -- the record after a list of calls: it is sound, of this batch, and some number of nodes on
+  record AfterList (s : Search) : Type 0 where
+    is-sound : sound s ≡ true
+    k : ℕ
+    is : s ≡ nodes k (freshSearch b)
+    batch : s .batch ≡ b
+
+  after-list : (cs : List Call) → AfterList (after (freshSearch b) cs)
   after-list cs =
       let r = after-fresh b passes n end (fresh-sound b passes) cs in
-      (ap sound (r .0) ∙ r .1, (min (granted b n 0 cs) n, r .0))
+      record {
+        is-sound = ap sound (r .0) ∙ r .1;
+        k = min (granted b n 0 cs) n;
+        is = r .0;
+        batch = ap (λ (s : Search). s .batch) (r .0) ∙ at-batch b passes n end (min (granted b n 0 cs) n);
+      }
 
-  pub file-back : (cs : List Call) → batchText (after (freshSearch b) cs) ≡ accept file
-  file-back cs =
-      let r = after-list cs in
-      text-back (after (freshSearch b) cs) (ap (λ (s : Search). s .batch) (r .1 .1) ∙ at-batch b passes n end (r .1 .0)) (r .0)
+  file-back : (s : Search) → AfterList s → (buffer : List ℕ) → length file ≤ length buffer → written (batchText s) buffer ≡ (Bytes (length file), file ++ drop (length file) buffer)
+  unfolding batchText require _>>=_ written fitting writtenAs
+  file-back s a buffer h =
+      let t : batchText s ≡ accept file = rw (a .is-sound) (ap (λ (c : Batch). accept (batchFile c)) (a .batch) ∙ ap accept (sym (f .text))) in
+      ap (λ (o : Outcome (List ℕ)). written o buffer) t ∙ rw (le-leb (length file) (length buffer) h)
 
-  pub file-plans : (cs : List Call) → BestValid b (after (freshSearch b) cs)
-  unfolding BestValid placeOf
-  file-plans cs =
-      let r = after-list cs .1 in
-      let k = r .0 in
-      subst (λ (s : Search). (l : ℕ) → bestTold (s .best) ≡ some l → Valid b (take (b .n) (s .starts)) × (latency b (take (b .n) (s .starts)) ≡ l)) (sym (r .1 ∙ nodes-fresh b (fits b passes) k))
-      (valid-best _ _ (best-valid b (fits b passes) k .good .best))
+  -- best is a valid plan with its latency
+  valid-best : (best : Best) (starts : List ℕ) → ValidBest b (record { best = best; starts = starts }) → (l : ℕ) → bestTold best ≡ some l → PlanWith b starts l
+  unfolding bestTold PlanWith
+  valid-best Nothing starts v l e = let z : _≡_ {A = ℕ} 0 1 = cc in absurd (omega arith)
+  valid-best (Latency k) starts v l e = let z : k ≡ l = cc in (v .0, v .1 ∙ z)
 
-pub demand-2 : (file : List ℕ) → Demand2 file
-unfolding opened openedAs openTold
+  plans : (s : Search) → AfterList s → (l : ℕ) → bestTold (s .best) ≡ some l → PlanWith b (s .starts) l
+  unfolding placeOf
+  plans s a =
+      subst (λ (s : Search). (l : ℕ) → bestTold (s .best) ≡ some l → PlanWith b (s .starts) l) (sym (a .is ∙ nodes-fresh b (fits b passes) (a .k)))
+      (valid-best _ _ (best-valid b (fits b passes) (a .k) .good .best))
+
+  -- an answer with a plan is best's, and its starts are the list's first n places
+  told-best : (e : Bool) (best : Best) (total l t : ℕ) → runTold (answerOf e best total) ≡ accept (plan l t) → bestTold best ≡ some l
+  unfolding answerOf runTold bestTold
+  told-best false best total l t e = let z : _≡_ {A = ℕ} 0 1 = cc in absurd (omega arith)
+  told-best true Nothing total l t e = let z : _≡_ {A = ℕ} 0 1 = cc in absurd (omega arith)
+  told-best true (Latency k) total l t e = let z : k ≡ l = cc in ap some z
+
+  answer-plans : (cs : List Call) (c : Call) (l t : ℕ) → runTold (call (after (freshSearch b) cs) c .0 .answer) ≡ accept (plan l t) → PlanWith b (call (after (freshSearch b) cs) c .1) l
+  unfolding call PlanWith
+  answer-plans cs c l t e = by (runRefusal s (c .budget) (length (c .starts))) refl
+    where
+      s : Search
+      s = after (freshSearch b) cs
+
+      leaves : RunLeaves s (c .budget) (c .starts) (ran s (c .budget) (c .starts) .0) (ran s (c .budget) (c .starts) .1)
+      leaves = demand-1 .running s (c .budget) (c .starts)
+
+      next : Search
+      next = after (freshSearch b) (cs ++ (c ∷ []))
+
+      next-is : ran s (c .budget) (c .starts) .0 .search ≡ next
+      next-is = sym (after-append (freshSearch b) cs c)
+
+      by : (o : Outcome (Unit {0})) → runRefusal s (c .budget) (length (c .starts)) ≡ o → PlanWith b (ran s (c .budget) (c .starts) .1) l
+      by (refuse k) g = refused (sym (leaves .refused k g .0) ∙ e)
+      by (accept u) g =
+          let r = leaves .reached g in
+          let p : PlanWith b (ran s (c .budget) (c .starts) .0 .search .starts) l =
+          subst (λ (x : Search). (l : ℕ) → bestTold (x .best) ≡ some l → PlanWith b (x .starts) l) (sym next-is) (plans next (after-list (cs ++ (c ∷ [])))) l
+          (told-best _ _ _ l t (ap runTold (sym (r .1)) ∙ e)) in
+          let z = leaves .plan-list l t e ∙ ap (λ (x : Batch). take (x .n) (ran s (c .budget) (c .starts) .0 .search .starts) ++ drop (x .n) (c .starts)) (after-list cs .batch) in
+          let placed = take-at (take (b .n) (ran s (c .budget) (c .starts) .0 .search .starts)) (drop (b .n) (c .starts)) (b .n) (p .0 .starts) in
+          subst (λ (list : List ℕ). Valid b list × (latency b list ≡ l)) (sym (ap (take (b .n)) z ∙ placed)) p
+
+  text-plans : (s : Search) → AfterList s → s .ended ≡ true → planText s ≡ accept (planLines (s .best) (b .n) (s .starts) (s .total))
+  unfolding planText require _>>=_
+  text-plans s a e = rw (a .is-sound, e) (ap (λ (c : Batch). accept (planLines (s .best) (c .n) (s .starts) (s .total))) (a .batch))
+
+pub demand-2 : demand2
+unfolding demand2 opened openedAs openTold
 demand-2 file =
     record {
       opens = (λ e. there (openFile file) refl e, λ (b, f). ap (λ (o : Outcome Batch). openTold (openedAs o .answer)) (open-format file b .1 f));
       yields = λ b f. ap (λ (o : Outcome Batch). openedAs o .search) (open-format file b .1 f);
-      back = file-back file;
-      plans = file-plans file;
+      written-back = λ b f cs. file-back file b f (after (freshSearch b) cs) (after-list file b f cs);
+      best-plans = λ b f cs. plans file b f (after (freshSearch b) cs) (after-list file b f cs);
+      answer-plans = λ b f. answer-plans file b f;
+      text-plans = λ b f cs. text-plans file b f (after (freshSearch b) cs) (after-list file b f cs);
     }
   where
     there : (o : Outcome Batch) → openFile file ≡ o → openTold (openedAs o .answer) ≡ accept tt → (b : Batch) × BatchFile file b

@@ -1,6 +1,6 @@
 -- Answers that may be a refusal: what an accepted answer says of each step that led to it, and steps that accept one after the other.
 use Prim.Native.Nat.{ℕ}
-use mathlib.Core.Path.{_≡_, refl}
+use mathlib.Core.Path.{_≡_, refl, ap}
 use mathlib.Core.Bool.{Bool, true, false}
 use mathlib.Core.Option.{Option, none, some}
 use native.Mathlib.Omega.{arith}
@@ -9,6 +9,10 @@ use Rattle.model.specs.Common.{Outcome, refuse, accept, _>>=_, require, 
 -- no refusal is an answer
 pub refused : {A X : Type 0} {k : ℕ} {a : A} → refuse k ≡ accept a → X
 refused e = let z : _≡_ {A = ℕ} 0 1 = cc in absurd (omega arith)
+
+-- the same refusal of another kind of answer
+pub refuse-as : {A B : Type 0} {k j : ℕ} → _≡_ {A = Outcome A} (refuse k) (refuse j) → _≡_ {A = Outcome B} (refuse k) (refuse j)
+refuse-as {k} {j} e = let z : k ≡ j = cc in ap refuse z
 
 pub accept-eq : {A : Type 0} {a c : A} → accept a ≡ accept c → a ≡ c
 accept-eq e = cc

@@ -3,7 +3,7 @@ use Rattle.model.specs.Common.{if_then_else_, between, eqZ, count, all, 
 use Rattle.model.specs.Batch.{blankJob, blankDelay, jobOf, ticks, mask, bit, delayOf, delaysOf}
 use Rattle.model.specs.Plan.{start, Keeps, Holds, KeepsDelays, KeepsStations, finish, latency}
 use Rattle.model.specs.Clash.{meet, clashing, distances, clashesOf, clashes}
-use Rattle.model.specs.Starts.{plus, raised, rounds, same, firstStarts, leastStarts, heavier, place, table}
+use Rattle.model.specs.Starts.{plus, raised, rounds, same, firstStarts, leastStarts, heavier, entry, table}
 use Rattle.model.specs.Search.{noClash, sideOf, turned, inequalities, startsAt, met, firstMet, nextSide, movedOn, turnedBack, backTo, back, prunes, becomeBest, branch, visit, next, empty, isTurn, turnsOf, placeOf, searchOf, freshPlace, freshSearch, node, nodesOn, nodes, nodeLimit}
 use Rattle.model.specs.Line.{digit, byte, bytesOf, lineOf, frameBytes, readLine, digitOf, digitsOf, line, two, four}
 use Rattle.model.specs.Format.{unsigned, headerLine, masksOf, jobLine, delayLine, jobsOf, batchFile, padJob, batchOf, blanked}
@@ -16,5 +16,5 @@ use Rattle.model.specs.Program.{goOn, planned, printed, program}
 use Rattle.model.specs.Calls.{call, after, refuses, granted}
 
 unfoldable pub definitions : Unit {0}
-unfolding if_then_else_ between eqZ count all any keep upTo pad joined isEmpty isSome _>>=_ require given blankJob blankDelay jobOf ticks mask bit delayOf delaysOf start Keeps Holds KeepsDelays KeepsStations finish latency meet clashing distances clashesOf clashes plus raised rounds same firstStarts leastStarts heavier place table noClash sideOf turned inequalities startsAt met firstMet nextSide movedOn turnedBack backTo back prunes becomeBest branch visit next empty isTurn turnsOf placeOf searchOf freshPlace freshSearch node nodesOn nodes nodeLimit digit byte bytesOf lineOf frameBytes readLine digitOf digitsOf line two four unsigned headerLine masksOf jobLine delayLine jobsOf batchFile padJob batchOf blanked countsOk ticksOk jobsOk weightOk fewClashes delaysMet at wide signed frameIs header wides jobIn job delayIn delay due readOne readAll readFile openFile blankSearch openedAs opened soundBatch distinct soundTurns soundPath soundBest sound runRefusal counted answerOf startsAfter answered ranAs ran runTold totalTold openTold writeTold bestTold planLines planText batchText refusalLine fitting writtenAs written goOn planned printed program call after refuses granted
+unfolding if_then_else_ between eqZ count all any keep upTo pad joined isEmpty isSome _>>=_ require given blankJob blankDelay jobOf ticks mask bit delayOf delaysOf start Keeps Holds KeepsDelays KeepsStations finish latency meet clashing distances clashesOf clashes plus raised rounds same firstStarts leastStarts heavier entry table noClash sideOf turned inequalities startsAt met firstMet nextSide movedOn turnedBack backTo back prunes becomeBest branch visit next empty isTurn turnsOf placeOf searchOf freshPlace freshSearch node nodesOn nodes nodeLimit digit byte bytesOf lineOf frameBytes readLine digitOf digitsOf line two four unsigned headerLine masksOf jobLine delayLine jobsOf batchFile padJob batchOf blanked countsOk ticksOk jobsOk weightOk fewClashes delaysMet at wide signed frameIs header wides jobIn job delayIn delay due readOne readAll readFile openFile blankSearch openedAs opened soundBatch distinct soundTurns soundPath soundBest sound runRefusal counted answerOf startsAfter answered ranAs ran runTold totalTold openTold writeTold bestTold planLines planText batchText refusalLine fitting writtenAs written goOn planned printed program call after refuses granted
 definitions = tt

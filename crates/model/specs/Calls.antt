@@ -27,10 +27,10 @@ after s (c ∷ cs) = after (call s c .0 .search) cs
 -- the table refuses a call by 11, 13 or 14. 14 is read with S before the call: the smaller of it and N is the total, and not
 -- ended means that it is below N; 12 refuses no call of such a list
 unfoldable pub refuses : Batch → ℕ → ℕ → Call → Bool
-refuses b n s c =
-    ltb mostBudget (c .budget) || ltb (length (c .starts)) (b .n) || (ltb s n && ltb mostTotal (min s n + c .budget))
+refuses b N S c =
+    ltb mostBudget (c .budget) || ltb (length (c .starts)) (b .n) || (ltb S N && ltb mostTotal (min S N + c .budget))
 
 -- S: 0 before the first call; each call that the table does not refuse adds its budget
 unfoldable pub granted : Batch → ℕ → ℕ → List Call → ℕ
-granted b n s [] = s
-granted b n s (c ∷ cs) = granted b n (if refuses b n s c then s else s + c .budget) cs
+granted b N S [] = S
+granted b N S (c ∷ cs) = granted b N (if refuses b N S c then S else S + c .budget) cs

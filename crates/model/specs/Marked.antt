@@ -1,4 +1,5 @@
--- Marked batches: C1 to C10 of 01 and rows of our own, one table, and the theorem that every row is what the definitions give.
+-- Marked batches: C1 to C10 of 01 and rows of our own that rule out misreadings which those leave standing. One table, and the theorem that
+-- every row is what the definitions give; then what the program prints for C3.
 use Prim.Native.Nat.{ℕ}
 use Prim.Native.Char.{code}
 use Prim.Native.String.{String, [] as end, _∷_ as _then_}
@@ -12,10 +13,13 @@ use Rattle.model.specs.declared.Search.{Search}
 use Rattle.model.specs.declared.Answer.{Answer}
 use Rattle.model.specs.declared.Answer.the-variants.{Spent, Plan, NoPlan}
 use Rattle.model.specs.declared.Ran.{Ran}
+use Rattle.model.specs.declared.Opened.{Opened}
 use Rattle.model.specs.Common.{if_then_else_, Outcome, refuse, accept, _>>=_}
 use Rattle.model.specs.Search.{nodes, freshSearch}
-use Rattle.model.specs.Open.{openFile}
+use Rattle.model.specs.Open.{opened}
 use Rattle.model.specs.Run.{ran}
+use Rattle.model.specs.Answers.{openTold}
+use Rattle.model.specs.Program.{program}
 use Rattle.model.specs.All.{definitions}
 
 -- ---- files as 01 prints them: each blank stands for 0A, and the file ends in 0A
@@ -52,9 +56,9 @@ opens file budgets n answers starts =
 unfoldable pub once : List ℕ
 once = 100 ∷ []
 
--- C1 to C10, and then our own rows
 unfoldable pub rows : List Row
 rows =
+    -- C1 to C8
     refusedWith 7 []
     ∷ opens "A0010100 A1010001" once 1 (Plan 1 1 ∷ []) (0 ∷ [])
     ∷ opens "A0010200 A1010001 A103000100020002" once 3 (Plan 3 3 ∷ []) (1 ∷ 0 ∷ [])
@@ -63,18 +67,29 @@ rows =
     ∷ refusedWith 10 (fileOf "A0010202 A1010001 A1010002 A200010001 A201000000")
     ∷ opens "A0010202 A1010001 A1010002 A200010001 A20100FFFF" once 1 (Plan 2 1 ∷ []) (0 ∷ 1 ∷ [])
     ∷ opens "A0010100 A10200010000" once 1 (Plan 2 1 ∷ []) (0 ∷ [])
+    -- C9: C3 in three runs
     ∷ opens "A0010200 A1010001 A103000100020002" (0 ∷ 2 ∷ 1 ∷ []) 3 (Spent 0 ∷ Spent 2 ∷ Plan 3 3 ∷ []) (1 ∷ 0 ∷ [])
+    -- C10: both ends of w, and one past each
     ∷ opens "A0010201 A1010001 A1010002 A2000103E8" once 1 (Plan 1001 1 ∷ []) (0 ∷ 1000 ∷ [])
     ∷ opens "A0010201 A1010001 A1010002 A20001FC18" once 1 (Plan 1 1 ∷ []) (0 ∷ 0 ∷ [])
     ∷ refusedWith 6 (fileOf "A0010201 A1010001 A1010002 A2000103E9")
     ∷ refusedWith 6 (fileOf "A0010201 A1010001 A1010002 A20001FC17")
-    -- a station shared in later ticks only
+    -- our own: a station shared in later ticks only
     ∷ opens "A0010200 A10200000001 A10200000001" once 3 (Plan 3 3 ∷ []) (0 ∷ 1 ∷ [])
+    -- station 15
+    ∷ opens "A0010200 A1018000 A1018000" once 3 (Plan 2 3 ∷ []) (0 ∷ 1 ∷ [])
+    -- a weight below 0 that raises a start
+    ∷ opens "A0010302 A1010001 A1010002 A1010004 A200010005 A20102FFFE" once 1 (Plan 6 1 ∷ []) (0 ∷ 5 ∷ 3 ∷ [])
     -- four jobs: the order in which clashes are branched on
     ∷ opens "A0010400 A10200010000 A1010002 A1010002 A10200010003" once 5 (Plan 3 5 ∷ []) (0 ∷ 0 ∷ 1 ∷ 1 ∷ [])
-    -- the order of the refusals: 2 before 3, 3 before 4, 5 before 6, 8 before 10
+    -- runs on an ended search give its result again
+    ∷ opens "A0010200 A1010001 A103000100020002" (3 ∷ 0 ∷ 1000000 ∷ []) 3 (Plan 3 3 ∷ Plan 3 3 ∷ Plan 3 3 ∷ []) (1 ∷ 0 ∷ [])
+    -- the refusals' numbers and order: 1 before 2, 2 before 3, 3 before 4, 2 before 4, 5 before 6, 8 before 10
+    ∷ refusedWith 1 (fileOf "A0010100 A101000g")
     ∷ refusedWith 2 (fileOf "A00201")
     ∷ refusedWith 3 (fileOf "A0020000")
+    ∷ refusedWith 2 (fileOf "A0010100 A1110001")
+    ∷ refusedWith 4 (fileOf "A0010100 A100")
     ∷ refusedWith 5 (fileOf "A0010201 A1010001 A1010001 A2000003E9")
     ∷ refusedWith 8 (fileOf "A0010202 A1010001 A1010002 A200010001 A201000000 ")
     ∷ []
@@ -97,8 +112,14 @@ shown r b =
     record { answers = answers; starts = starts; ends = endsAt b (r .n) }
 
 unfoldable pub gives : Row → Outcome Shown
-gives r = openFile (r .file) >>= λ b. accept (shown r b)
+gives r = let o = opened (r .file) in openTold (o .answer) >>= λ u. accept (shown r (o .search .batch))
 
 pub marked : map gives rows ≡ map (λ r. r .stated) rows
 unfolding definitions rows refusedWith opens once gives shown runs endsAt characters fileOf
 marked = refl
+
+-- ---- the program
+
+pub printed-c3 : program (fileOf "A0010200 A1010001 A103000100020002") ≡ fileOf "B00102000300000003 B1000001 B1010000"
+unfolding definitions characters fileOf
+printed-c3 = refl

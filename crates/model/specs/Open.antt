@@ -77,10 +77,10 @@ wides (h ∷ l ∷ bs) = (h * 256 + l) ∷ wides bs
 unfoldable pub jobIn : List ℕ → Job
 jobIn f = record { ticks = at f 1; masks = pad mostTicks 0 (wides (drop 2 f)) }
 
--- a job line without p is too short
+-- a job line without p is too short for any p
 unfoldable pub job : List ℕ → Outcome Job
 job f = do
-  _ ← require 2 (leb 2 (length f) && frameIs 0xA1 (2 + 2 * at f 1) f)
+  _ ← require 2 (frameIs 0xA1 (2 + 2 * at f 1) f)
   _ ← require 4 (ticksOk (at f 1))
   accept (jobIn f)
 

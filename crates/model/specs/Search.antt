@@ -158,9 +158,9 @@ nodes k s = nodesOn (clashes (s .batch)) k s
 
 -- ---- N: the total at which a fresh search has ended, with no budget and no limit
 
-pub record Ends (b : Batch) (n : ℕ) : Type 0 where
-  pub ended : nodes n (freshSearch b) .ended ≡ true
-  pub total : nodes n (freshSearch b) .total ≡ n
+pub record Ends (b : Batch) (N : ℕ) : Type 0 where
+  pub ended : nodes N (freshSearch b) .ended ≡ true
+  pub total : nodes N (freshSearch b) .total ≡ N
 
 -- 2^(D+1) − 1
 unfoldable pub nodeLimit : Batch → ℕ

@@ -29,7 +29,7 @@ distinct (x ∷ xs) = not (any (eqb x) xs) && distinct xs
 
 -- its path names listed clashes with sides 0 or 1, no two turns the same clash
 unfoldable pub soundTurns : ℕ → List Turn → Bool
-soundTurns dd ts = all (λ t. ltb (t .clash) dd && leb (t .side) 1) ts && distinct (map (λ t. t .clash) ts)
+soundTurns D ts = all (λ t. ltb (t .clash) D && leb (t .side) 1) ts && distinct (map (λ t. t .clash) ts)
 
 -- with empty places only after the last turn, and no turn at all if ended
 unfoldable pub soundPath : Search → Bool

@@ -52,10 +52,10 @@ heavier w none = w
 heavier w (some v) = if leZ v w then w else v
 
 -- the place for the pair (i, j): empty, or the largest weight of the inequalities from i to j
-unfoldable pub place : List Delay → ℕ → ℕ → Option ℤ
-place [] i j = none
-place (q ∷ qs) i j = if eqb (q .from) i && eqb (q .to) j then some (heavier (q .weight) (place qs i j)) else place qs i j
+unfoldable pub entry : List Delay → ℕ → ℕ → Option ℤ
+entry [] i j = none
+entry (q ∷ qs) i j = if eqb (q .from) i && eqb (q .to) j then some (heavier (q .weight) (entry qs i j)) else entry qs i j
 
 -- 24 rows of 24 weights: row j has what ends in job j
 unfoldable pub table : List Delay → List (List (Option ℤ))
-table qs = map (λ j. map (λ i. place qs i j) (count 0 mostJobs)) (count 0 mostJobs)
+table qs = map (λ j. map (λ i. entry qs i j) (count 0 mostJobs)) (count 0 mostJobs)
