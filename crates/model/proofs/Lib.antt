@@ -1,5 +1,6 @@
 -- The laws about the definitions: pure mathematics, no code. Each depends only on those above it.
 pub mod ListLaws
+pub mod SeqLaws
 pub mod OutcomeLaws
 pub mod PlusLaws
 pub mod SideLaws

@@ -1,0 +1,93 @@
+-- A code names its clash: what the parts of the code of a clash in range are.
+use Prim.Native.Nat.{ℕ, suc, _+_, _-_, _*_, _/_, _%_, _<_}
+use mathlib.Core.Path.{_≡_, refl, sym, ap, _∙_}
+use mathlib.Core.Bool.{Bool, true, false, cond}
+use mathlib.Core.List.{List·Memᴰ}
+use native.Mathlib.Omega.{arith}
+use lib.IntN.{ℤ, pos, negsuc, subℕ}
+use lib.Dec.{ltb}
+use borrow.Author.Tests.{ltb-true, ltb-false}
+use Rattle.model.specs.declared.Batch.{Batch}
+use Rattle.model.specs.Clash.{Clash, clashes}
+use Rattle.clashes.specs.Code.{lift, codeOf, clashOf}
+use Rattle.clashes.specs.List.{Tabled}
+use Rattle.clashes.specs.First.{Named}
+use Rattle.clashes.proofs.DistanceLaws.{sum-sub}
+use Rattle.clashes.proofs.ClashLaws.{Listed, clash-listed}
+
+-- a distance that is k − 15 is lifted to k
+pub lift-sub : (k : ℕ) → lift (subℕ k 15) ≡ k
+unfolding lift
+lift-sub k = go (ltb k 15) refl
+  where
+    go : (c : Bool) → ltb k 15 ≡ c → lift (cond c (negsuc (15 - suc k)) (pos (k - 15))) ≡ k
+    go true h = omega (arith, ltb-true k 15 h)
+    go false h = omega (arith, ltb-false k 15 h)
+
+-- a clash of two of 24 jobs at a distance from −15 to 15, which is k − 15
+pub record Ranged (c : Clash) : Type 0 where
+  pub rising : c .i < c .j
+  pub known : c .j < 24
+  pub k : ℕ
+  pub k-in : k < 31
+  pub distance : c .d ≡ subℕ k 15
+
+-- a table of 16 ticks reaches no further
+ranged-at : (b : Batch) (c : Clash) → Tabled b → Listed b c → Ranged c
+ranged-at b c t l =
+    let s = l .shared in
+    let p = t .short (c .i) (omega (arith, l .rising, l .known)) in
+    let q = t .short (c .j) (l .known) in
+    record {
+      rising = l .rising;
+      known = omega (arith, l .known, t .few);
+      k = s .a + 15 - s .c;
+      k-in = omega (arith, s .a-in);
+      distance = sym (s .distance) ∙ sum-sub (s .a) (s .c) (s .a + 15 - s .c) 15 (omega (arith, s .c-in));
+    }
+
+-- every listed clash is in range
+pub listed-ranged : (b : Batch) → Tabled b → (c : Clash) → List·Memᴰ c (clashes b) → Ranged c
+listed-ranged b t c m = ranged-at b c t (clash-listed b c m)
+
+-- the code of a clash in range, with its distance as k − 15
+code-sum : (c : Clash) (r : Ranged c) → codeOf c ≡ c .i * 1024 + c .j * 32 + r .k
+unfolding codeOf
+code-sum c r = let e : lift (c .d) ≡ r .k = ap lift (r .distance) ∙ lift-sub (r .k) in rw e
+
+-- clashes with the same parts are the same
+same-clash : {i i′ j j′ : ℕ} {d d′ : ℤ} → i ≡ i′ → j ≡ j′ → d ≡ d′ → _≡_ {A = Clash} (record { i = i; j = j; d = d }) (record { i = i′; j = j′; d = d′ })
+same-clash p q r = rw (p, q, r)
+
+-- the code gives its clash back
+pub code-back : (c : Clash) → Ranged c → clashOf (codeOf c) ≡ c
+unfolding clashOf
+code-back c r =
+    let e = code-sum c r in
+    let low : codeOf c % 32 ≡ r .k = omega (arith, r .k-in) in
+    let high : codeOf c / 32 ≡ c .i * 32 + c .j = omega (arith, r .k-in) in
+    same-clash (omega (arith, r .known, r .k-in)) (rw high (omega (arith, r .known)))
+    (ap (λ (k : ℕ). subℕ k 15) low ∙ sym (r .distance))
+
+-- its parts, as code reads them
+pub code-i : (c : Clash) → Ranged c → codeOf c / 1024 ≡ c .i
+unfolding clashOf
+code-i c r = ap (λ (c : Clash). c .i) (code-back c r)
+
+pub code-j : (c : Clash) → Ranged c → codeOf c / 32 % 32 ≡ c .j
+unfolding clashOf
+code-j c r = ap (λ (c : Clash). c .j) (code-back c r)
+
+pub code-d : (c : Clash) → Ranged c → subℕ (codeOf c % 32) 15 ≡ c .d
+unfolding clashOf
+code-d c r = ap (λ (c : Clash). c .d) (code-back c r)
+
+-- it fits 16 bits
+pub code-small : (c : Clash) → Ranged c → codeOf c < 24576
+code-small c r = omega (arith, code-sum c r, r .rising, r .known, r .k-in)
+
+-- it names two jobs
+pub code-named : (c : Clash) → Ranged c → Named (codeOf c)
+code-named c r =
+    rw (code-sum c r)
+    (record { first = omega (arith, r .rising, r .known, r .k-in); second = omega (arith, r .known, r .k-in) })

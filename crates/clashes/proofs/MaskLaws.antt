@@ -1,0 +1,60 @@
+-- Two masks share a station exactly when their bitwise and is not 0.
+use mathlib.Core.Path.{_≡_, sym, _∙_}
+use mathlib.Core.Logic.{_≢_}
+use mathlib.Core.Bool.{true, not}
+use Prim.Native.Nat.{ℕ, zero, suc, _/_, _%_, _^_, _<_, min, suc-le-suc}
+use native.Mathlib.Nat.{pow-suc, mul-comm, div-div-eq-div-mul}
+use native.Mathlib.Omega.{arith}
+use native.Mathlib.Decide.{ℕ-discrete}
+use lib.Dec.{eqb}
+use lib.Bits.{bitAnd, and-step, and-zero-l}
+use borrow.Author.Tests.{eqb-true, eq-eqb, ne-eqb}
+use Rattle.model.specs.Batch.{bit}
+use Rattle.model.specs.Clash.{meet}
+use Rattle.clashes.proofs.ListLaws.{decide}
+use Rattle.clashes.proofs.ClashLaws.{meet-some, some-meet}
+
+-- bit 0 is the remainder, and bit s + 1 is bit s of the half
+bit-zero : (m : ℕ) → bit m 0 ≡ true → m % 2 ≡ 1
+unfolding bit
+bit-zero m t = let e : m / 1 ≡ m = omega arith in rw e at (eqb-true (m / 1 % 2) 1 t)
+
+zero-bit : (m : ℕ) → m % 2 ≡ 1 → bit m 0 ≡ true
+unfolding bit
+zero-bit m h = let e : m / 1 ≡ m = omega arith in eq-eqb (m / 1 % 2) 1 (rw e h)
+
+bit-suc : (m s : ℕ) → bit m (suc s) ≡ bit (m / 2) s
+unfolding bit
+bit-suc m s = let e : m / 2 ^ suc s ≡ m / 2 / 2 ^ s = rw (div-div-eq-div-mul, pow-suc, mul-comm (2 ^ s) 2) in rw e
+
+-- a bit in both is a bit of the and
+both-and : (s m k : ℕ) → bit m s ≡ true → bit k s ≡ true → bitAnd m k ≢ 0
+both-and zero m k p q e = omega (arith, and-step m k, bit-zero m p, bit-zero k q)
+both-and (suc s) m k p q e =
+    both-and s (m / 2) (k / 2) (rw bit-suc at p) (rw bit-suc at q) (omega (arith, and-step m k))
+
+-- a bit of the and is in both
+and-both : (n m k : ℕ) → m < 2 ^ n → bitAnd m k ≢ 0 → (s : ℕ) × (s < n) × (bit m s ≡ true) × (bit k s ≡ true)
+and-both zero m k h ne = let e : m ≡ 0 = omega arith in absurd (ne (rw e (and-zero-l k)))
+and-both (suc n) m k h ne = side (ℕ-discrete (bitAnd (m / 2) (k / 2)) 0) (λ f. and-both n (m / 2) (k / 2) (omega arith) f)
+  where
+    side : Dec (bitAnd (m / 2) (k / 2) ≡ 0) → (bitAnd (m / 2) (k / 2) ≢ 0 → (s : ℕ) × (s < n) × (bit (m / 2) s ≡ true) × (bit (k / 2) s ≡ true))
+        → (s : ℕ) × (s < suc n) × (bit m s ≡ true) × (bit k s ≡ true)
+    side (yes e) f =
+        let low : min (m % 2) (k % 2) ≢ 0 = λ z. ne (and-step m k ∙ omega arith) in
+        (0, omega arith, zero-bit m (omega arith), zero-bit k (omega arith))
+    side (no e) f =
+        let r : (s : ℕ) × (s < n) × (bit (m / 2) s ≡ true) × (bit (k / 2) s ≡ true) = f e in
+        (suc (r .0), suc-le-suc (r .1), bit-suc m (r .0) ∙ r .2, bit-suc k (r .0) ∙ r .3)
+
+-- the test of two masks
+pub meet-and : (m k : ℕ) → m < 65_536 → not (eqb (bitAnd m k) 0) ≡ meet m k
+meet-and m k h = go (ℕ-discrete (bitAnd m k) 0)
+  where
+    go : Dec (bitAnd m k ≡ 0) → not (eqb (bitAnd m k) 0) ≡ meet m k
+    go (yes e) =
+        rw (eq-eqb (bitAnd m k) 0 e)
+        (sym (decide (meet m k) λ t. let r = meet-some m k t in both-and (r .0) m k (r .2) (r .3) e))
+    go (no e) =
+        let r = and-both 16 m k h e in
+        rw (ne-eqb (bitAnd m k) 0 e) (sym (some-meet m k (r .0) (r .1) (r .2) (r .3)))

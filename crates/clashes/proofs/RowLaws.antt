@@ -1,0 +1,65 @@
+-- Job i with the jobs after it, as the code reads them from the batch; and the whole list.
+use Prim.Native.Nat.{ℕ, suc, _+_, _-_, _*_, _≤_, _<_}
+use mathlib.Core.Path.{_≡_, ap, _∙_}
+use mathlib.Core.List.{List, [], map}
+use native.Mathlib.Omega.{arith}
+use lib.ListN.{length, getD, replicate, length-map}
+use Rattle.model.specs.declared.Job.{Job}
+use Rattle.model.specs.declared.Batch.{Batch}
+use Rattle.model.specs.Common.{count, joined}
+use Rattle.model.specs.Batch.{jobOf, blankJob, ticks}
+use Rattle.model.specs.Clash.{Clash, clashesOf, clashes}
+use Rattle.clashes.specs.declared.Clashes.{Clashes}
+use Rattle.clashes.specs.Code.{codeOf}
+use Rattle.clashes.specs.List.{listing, listOf, pairCodes, rowCodes, Grown, Tabled}
+use Rattle.clashes.proofs.SeqLaws.{getD-same}
+use Rattle.clashes.proofs.StoreLaws.{full, add-empty}
+use Rattle.clashes.proofs.PairLaws.{pair-codes}
+use Rattle.clashes.proofs.GrowLaws.{codesFrom, Growing, grow-more, grow-end}
+
+-- job i as the code reads it
+abbrev pub jobAt : Batch → ℕ → Job
+jobAt b i = getD (b .jobs) i (record { ticks = 0; masks = [] })
+
+module _ (b : Batch) (t : Tabled b) (long : length (b .jobs) ≡ 24) where
+  -- it is the job of the model
+  job-at : (i : ℕ) → i < b .n → jobAt b i ≡ jobOf b i
+  unfolding jobOf
+  job-at i h = getD-same (b .jobs) i (record { ticks = 0; masks = [] }) blankJob (omega (arith, t .few))
+
+  -- its ticks are within their limit
+  pub job-short : (i : ℕ) → i < b .n → jobAt b i .ticks ≤ 16
+  unfolding ticks
+  job-short i h = rw (job-at i h) (t .short i h)
+
+  -- one turn of the loop over j
+  pub row-more : (i : ℕ) (from l m : Clashes) (j : ℕ) → i < b .n → Growing (clashesOf b i) 31 (suc i) (b .n) from l j → j < b .n
+      → Grown l m (pairCodes (jobAt b i) (jobAt b j) (i * 1024 + j * 32)) 31 → Growing (clashesOf b i) 31 (suc i) (b .n) from m (j + 1)
+  row-more i from l m j hi g hj s =
+      let e : pairCodes (jobAt b i) (jobAt b j) (i * 1024 + j * 32) ≡ map codeOf (clashesOf b i j) = rw (job-at i hi, job-at j hj) (pair-codes b i j) in
+      grow-more (clashesOf b i) 31 (suc i) (b .n) from l m j g hj (rw e at s)
+
+-- after the last turn the row is complete
+pub row-end : (b : Batch) → Tabled b → (i : ℕ) (from l : Clashes) (j : ℕ) → Growing (clashesOf b i) 31 (suc i) (b .n) from l j → b .n ≤ j → Grown from l (rowCodes b i) 744
+unfolding rowCodes codesFrom
+row-end b t i from l j g h =
+    record { all = grow-end (clashesOf b i) 31 (suc i) (b .n) from l j g h; few = omega (arith, g .few, g .within, t .few) }
+
+-- ---- the batch
+
+-- the clashes of job i with the jobs after it
+unfoldable pub rowOf : Batch → ℕ → List Clash
+rowOf b i = joined (clashesOf b i) (count (suc i) (b .n - suc i))
+
+-- one turn of the loop over i
+pub list-more : (b : Batch) (from l m : Clashes) (i : ℕ) → Growing (rowOf b) 744 0 (b .n) from l i → i < b .n → Grown l m (rowCodes b i) 744 → Growing (rowOf b) 744 0 (b .n) from m (i + 1)
+unfolding rowCodes rowOf
+list-more b from l m i g h s = grow-more (rowOf b) 744 0 (b .n) from l m i g h s
+
+-- after the last turn the list is complete
+pub list-end : (b : Batch) (l : Clashes) (i : ℕ) → Growing (rowOf b) 744 0 (b .n) (listing 0 (replicate 1024 0)) l i → b .n ≤ i → l ≡ listOf b
+unfolding listOf full clashes codesFrom rowOf
+list-end b l i g h =
+    let e : b .n - 0 ≡ b .n = omega arith in
+    (rw e at (grow-end (rowOf b) 744 0 (b .n) (listing 0 (replicate 1024 0)) l i g h)) ∙ add-empty (map codeOf (clashes b))
+    ∙ ap (λ (d : ℕ). listing d (full (map codeOf (clashes b)) .codes)) (length-map (clashes b) codeOf)

@@ -1,0 +1,62 @@
+-- `list::add_pair` meets its contract. The invariant: what is left of the distances completes the pair.
+use Prim.Native.Nat.{_-_}
+use mathlib.Core.Path.{_∙_}
+use mathlib.Core.Logic.{⊎-elim}
+use borrow.Author.Needs.{needs}
+use Rattle.clashes.specs.List.{listing}
+use Rattle.clashes.proofs.PairLaws.{Pairing, pair-none, pair-in, pair-out, pair-end}
+use Rattle.clashes.proofs.StoreLaws.{listing-same}
+use Rattle.clashes.proofs.list.add_pair.Statement.{statement}
+use Rattle.clashes.proofs.list.add_pair.Tie as tie
+
+abbrev Inv-loop : tie.InvT-loop
+Inv-loop codes₀ count first second base at₀ k₀ codes at k = Pairing first second base (listing count codes₀) (listing at codes) k
+
+abbrev μ-loop : tie.MeasureT-loop
+μ-loop codes₀ count first second base at₀ k₀ codes at k = 31 - k
+
+loop-holds : tie.Need-loop-holds Inv-loop μ-loop
+loop-holds c = pair-none _ _ _ _
+
+tables-meet-requires : tie.Need-tables-meet-requires Inv-loop μ-loop
+tables-meet-requires c κs = search needs
+
+add-put-code : tie.Need-add-put-code Inv-loop μ-loop
+add-put-code c = search needs
+
+put-code-requires : tie.Need-put-code-requires Inv-loop μ-loop
+put-code-requires c κs = search needs
+
+add-k : tie.Need-add-k Inv-loop μ-loop
+add-k c = search needs
+
+loop-less : tie.Need-loop-less Inv-loop μ-loop
+loop-less c = search needs
+
+loop-again : tie.Need-loop-again Inv-loop μ-loop
+loop-again c =
+    let i = c .before .before .before .loop .inv in
+    let below = c .before .before .loop-test .taken in
+    let told = c .before .tables-meet .ensures in
+    ⊎-elim
+    (λ w. pair-in _ _ _ _ _ _ _ _ i below told (w .0 .taken) (listing-same (w .4) (w .3) ∙ w .2 .ensures))
+    (λ w. pair-out _ _ _ _ _ _ _ _ i below told (w .0 .left) (listing-same (w .2) (w .1)))
+    (c .if1 .came)
+
+returns : tie.Need-returns Inv-loop μ-loop
+returns c = pair-end _ _ _ _ _ _ (c .before .loop .inv) (c .loop-test .left)
+
+pub add-pair-spec : {M : Type 1} → statement M
+add-pair-spec =
+    tie.close
+    (tie.spec
+    Inv-loop
+    μ-loop
+    loop-holds
+    tables-meet-requires
+    add-put-code
+    put-code-requires
+    add-k
+    loop-less
+    loop-again
+    returns)

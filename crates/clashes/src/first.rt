@@ -1,0 +1,40 @@
+// The first clash of a list of codes that starts meet: a scan that stops at the first, with no signed number.
+use crate::Met;
+ghost use mathlib.Core.Path.{_≡_};
+ghost use Prim.Native.Nat.{_≤_, _<_};
+ghost use Rattle.model.specs.Search.{met};
+ghost use Rattle.clashes.specs.Code.{clashOf};
+ghost use Rattle.clashes.specs.First.{firstCode, Known, Named};
+
+// A number as an index or a tick.
+fn wide16(x: u16) -> usize
+    ensures { λ r. ⌜ (r ≡ x) × (r < 65536) ⌝ }
+{
+    x as usize
+}
+
+// t_j - t_i = d for the clash of a code, as t_j + 15 = t_i + (d + 15).
+fn is_met(code: u16, starts: &[u16; 24]) -> bool
+    requires { ⌜ Named code ⌝ }
+    ensures { λ r. ⌜ r ≡ met (now (starts .entry)) (clashOf code) ⌝ }
+{
+    let x = wide16(code);
+    wide16(starts[x / 32 % 32]) + 15 == wide16(starts[x / 1024]) + x % 32
+}
+
+// The number of the first of the codes below count whose clash is met.
+pub fn first_met(codes: &[u16; 1024], count: usize, starts: &[u16; 24]) -> Met
+    requires { ⌜ count ≤ 1024 ⌝ }
+    requires { ⌜ Known (now codes) count ⌝ }
+    ensures { λ r. ⌜ r ≡ firstCode (now (codes .entry)) count (now (starts .entry)) ⌝ }
+{
+    let mut k: usize = 0;
+    while k < count {
+        if is_met(codes[k], starts) {
+            let number = k as u16;
+            return Met::Clash(number);
+        }
+        k = k + 1;
+    }
+    Met::Nothing
+}
