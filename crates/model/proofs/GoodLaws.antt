@@ -86,6 +86,11 @@ module _ (b : Batch) where
       side u (inl m) = g .sides u m
       side u (inr m) = omega (arith, ap (λ (v : Turn). v .side) (List·Memᴰ·eq-of-singleton m))
 
+  -- a clash that is not on the path leaves room for a turn
+  pub good-room : (ts : List Turn) (k : ℕ) → GoodTurns ts → k < length (clashes b) → ¬ List·Memᴰ k (numbers ts) → length ts < length (clashes b)
+  good-room ts k g h n =
+      omega (arith, good-length (ts ++ (record { clash = k; side = 0 } ∷ [])) (good-append ts k g h n), length-append ts (record { clash = k; side = 0 } ∷ []))
+
 -- I says what is kept of best. It must hold of every best that a node finds
 module _ (b : Batch) (fits : Fits b) (I : Incumbent → Type 0) (new : (ts : List Turn) → Named b ts → (ss : List ℕ) → startsAt (clashes b) b ts ≡ some ss → firstMet (clashes b) ss 0 ≡ none → I (becomeBest b ss)) where
   pub record Good (p : Place) : Type 0 where
@@ -117,24 +122,15 @@ module _ (b : Batch) (fits : Fits b) (I : Incumbent → Type 0) (new : (ts : Lis
       named : Named b (p .turns)
       named = good-named b (p .turns) (g .turns)
 
-      append : (k : ℕ) (ts : List Turn) → GoodTurns b ts → ts ≡ p .turns ++ (record { clash = k; side = 0 } ∷ []) → Step (p .turns) (record { turns = ts; incumbent = p .incumbent; ended = false })
-      append k ts h e =
+      append : (k : ℕ) → k < length (clashes b) → ¬ List·Memᴰ k (numbers (p .turns)) → Step (p .turns) (record { turns = p .turns ++ (record { clash = k; side = 0 } ∷ []); incumbent = p .incumbent; ended = false })
+      append k h new =
           record {
-            good = record { turns = h; best = g .best; over = λ e. apart e };
-            down =
-                inr (
-                  refl,
-                  omega (
-                    arith,
-                    ap (left (length (clashes b))) e,
-                    left-append (length (clashes b)) (p .turns) k (omega (arith, good-length b ts h, ap length e, length-append (p .turns) (record { clash = k; side = 0 } ∷ []))),
-                  ),
-                );
+            good = record { turns = good-append b (p .turns) k (g .turns) h new; best = g .best; over = λ e. apart e };
+            down = inr (refl, omega (arith, left-append (length (clashes b)) (p .turns) k (good-room b (p .turns) k (g .turns) h new)));
           }
 
       at-clash : (ss : List ℕ) → startsAt (clashes b) b (p .turns) ≡ some ss → (o : Option ℕ) → firstMet (clashes b) ss 0 ≡ o → Step (p .turns) (branch b p ss o)
-      at-clash ss e (some k) f =
-          append k _ (good-append b (p .turns) k (g .turns) (omega (arith, met-first (clashes b) ss 0 k f .1)) (met-new b fits (p .turns) named ss e k f)) refl
+      at-clash ss e (some k) f = append k (omega (arith, met-first (clashes b) ss 0 k f .1)) (met-new b fits (p .turns) named ss e k f)
       at-clash ss e none f = step-back (p .turns) (becomeBest b ss) (g .turns) (new (p .turns) named ss e f)
 
       at-starts : (ss : List ℕ) → startsAt (clashes b) b (p .turns) ≡ some ss → (q : Bool) → Step (p .turns) (if q then back (p .turns) (p .incumbent) else branch b p ss (firstMet (clashes b) ss 0))
