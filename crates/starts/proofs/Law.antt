@@ -1,0 +1,147 @@
+-- What a caller wants to know: where the arrays hold a batch's delays and a path's turns, they meet what `least_starts` asks, its table
+-- is the definition's table, and its answer is the definition's least starts.
+use mathlib.Core.Path.{_≡_, refl, sym, _∙_, ap}
+use mathlib.Core.Option.{Option, none, some}
+use mathlib.Core.List.{List, [], _∷_, _++_, map, append-assoc, append-nil}
+use Prim.Native.Nat.{ℕ, zero, suc, _/_, _%_, _≤_, _<_}
+use native.Mathlib.Omega.{arith}
+use lib.ListN.{length, getD, take, length-map, List·getD-map}
+use lib.Seq.{take-suc, take-length, ext-getD}
+use lib.IntN.{ℤ, pos, _+ℤ_, _-ℤ_}
+use Rattle.model.specs.declared.Delay.{Delay}
+use Rattle.model.specs.declared.Batch.{Batch}
+use Rattle.model.specs.declared.Turn.{Turn}
+use Rattle.model.specs.Common.{count, isSome}
+use Rattle.model.specs.Batch.{delayOf, delaysOf}
+use Rattle.model.specs.Clash.{Clash}
+use Rattle.model.specs.Starts.{entry, table, leastStarts}
+use Rattle.model.specs.Search.{noClash, sideOf, turned, inequalities, startsAt, empty}
+use Rattle.starts.specs.Code.{coded, placeCode, clashCode, ClashFits}
+use Rattle.starts.specs.Table.{putIn, turnIn, withDelays, withTurns, emptyTable, DelaysFit, TurnFits, TurnsFit}
+use Rattle.starts.specs.Least.{leastOf, leastAs, HoldsDelays, HoldsTurns}
+use Rattle.starts.proofs.CodeLaws.{coded-most, clash-i, clash-j, clash-d, side0-code, side0-limited, side1-code, side1-limited}
+use Rattle.starts.proofs.FillLaws.{map-snoc, listed-snoc, listed-at, listed-length}
+use Rattle.starts.proofs.TableLaws.{turn-side0, turn-side1}
+use Rattle.starts.proofs.PlaceLaws.{codeAt, Tabled, empty-tabled, put-tabled}
+use Rattle.starts.proofs.SettledLaws.{settled-is}
+
+-- ---- delays
+
+module _ (b : Batch) (few : b .n ≤ 24) (froms tos codes : List ℕ) (h : HoldsDelays b froms tos codes) where
+  pub delays-fit : DelaysFit froms tos codes (b .m)
+  delays-fit =
+      record {
+        from = λ k p. omega (arith, h .from k p, h .fromFits k p);
+        to = λ k p. omega (arith, h .to k p, h .toFits k p);
+        code = λ k p. omega (arith, h .code k p, coded-most (delayOf b k .weight) (h .weightFits k p));
+      }
+
+  pub delays-tabled : (k : ℕ) → k ≤ b .m → Tabled (b .n) (withDelays froms tos codes emptyTable k) (map (delayOf b) (count 0 k))
+  unfolding withDelays count
+  delays-tabled zero p = empty-tabled (b .n)
+  delays-tabled (suc k) p =
+      let l : k < b .m = omega arith in
+      rw (listed-snoc (delayOf b) k, h .from k l, h .to k l, h .code k l)
+      (put-tabled (b .n) few (withDelays froms tos codes emptyTable k) (map (delayOf b) (count 0 k)) (delays-tabled k (omega arith)) (delayOf b k)
+      (record { from = h .fromFits k l; to = h .toFits k l; weight = h .weightFits k l }))
+
+-- ---- turns
+
+-- the inequality of one side of a clash
+pub side-tabled : (n : ℕ) → n ≤ 24 → (t : List (List ℕ)) (qs : List Delay) → Tabled n t qs → (c : Clash) → ClashFits n c → (s turn code : ℕ) → s ≤ 1 → turn % 2 ≡ s → code ≡ clashCode c
+    → Tabled n (turnIn t code turn) (qs ++ (sideOf c s ∷ []))
+unfolding sideOf
+side-tabled n few t qs h c f zero turn code g p e =
+    let q : Delay = record { from = c .i; to = c .j; weight = c .d +ℤ pos 1 } in
+    let r : putIn t (c .i) (c .j) (coded (c .d +ℤ pos 1)) ≡ turnIn t code turn =
+    turn-side0 t _ code turn (c .i) (c .j) (rw e (sym (clash-i n few c f))) (rw e (sym (clash-j n few c f))) p
+    (ap (putIn t (c .i) (c .j)) (rw e (side0-code (c .d) (f .low) (f .high) ∙ omega (arith, clash-d n few c f)))) in
+    rw (← r) (put-tabled n few t qs h q (record { from = f .i; to = f .j; weight = side0-limited (c .d) (f .low) (f .high) }))
+side-tabled n few t qs h c f (suc zero) turn code g p e =
+    let q : Delay = record { from = c .j; to = c .i; weight = pos 1 -ℤ c .d } in
+    let r : putIn t (c .j) (c .i) (coded (pos 1 -ℤ c .d)) ≡ turnIn t code turn =
+    turn-side1 t _ code turn (c .i) (c .j) (rw e (sym (clash-i n few c f))) (rw e (sym (clash-j n few c f))) (λ z. omega arith)
+    (ap (putIn t (c .j) (c .i)) (rw e (side1-code (c .d) (f .low) (f .high) ∙ omega (arith, clash-d n few c f)))) in
+    rw (← r) (put-tabled n few t qs h q (record { from = f .j; to = f .i; weight = side1-limited (c .d) (f .low) (f .high) }))
+side-tabled n few t qs h c f (suc (suc s)) turn code g p e = absurd (omega arith)
+
+module _ (n : ℕ) (few : n ≤ 24) (cs : List Clash) (ts : List Turn) (clashes turns : List ℕ) (h : HoldsTurns n cs ts clashes turns) where
+  -- the clash that turn k is on
+  on : (k : ℕ) → k < length ts → getD turns k 0 / 2 ≡ getD ts k empty .clash
+  on k p = omega (arith, h .turn k p, h .side k p)
+
+  code-is : (k : ℕ) → k < length ts → getD clashes (getD turns k 0 / 2) 0 ≡ clashCode (getD cs (getD ts k empty .clash) noClash)
+  code-is k p = ap (λ (c : ℕ). getD clashes c 0) (on k p) ∙ h .code k p
+
+  pub turns-fit : TurnsFit clashes turns (length ts)
+  turns-fit =
+      record {
+        clash = λ k p. omega (arith, on k p, h .clash k p);
+        jobs = λ k p. rw (code-is k p) (fit (getD cs (getD ts k empty .clash) noClash) (h .fits k p));
+      }
+    where
+      fit : (c : Clash) → ClashFits n c → TurnFits (clashCode c)
+      fit c f = record { i = omega (arith, clash-i n few c f, f .i); j = omega (arith, clash-j n few c f, f .j) }
+
+  pub turns-tabled : (t : List (List ℕ)) (qs : List Delay) → Tabled n t qs → (k : ℕ) → k ≤ length ts → Tabled n (withTurns clashes turns t k) (qs ++ map (turned cs) (take k ts))
+  unfolding withTurns turned
+  turns-tabled t qs d zero p = rw append-nil d
+  turns-tabled t qs d (suc k) p =
+      let l : k < length ts = omega arith in
+      let u : Turn = getD ts k empty in
+      let s : qs ++ map (turned cs) (take (suc k) ts) ≡ (qs ++ map (turned cs) (take k ts)) ++ (turned cs u ∷ []) =
+      ap (λ (l : List Turn). qs ++ map (turned cs) l) (take-suc ts k empty l)
+      ∙ ap (λ (l : List Delay). qs ++ l) (map-snoc (turned cs) (take k ts) u) ∙ sym (append-assoc qs (map (turned cs) (take k ts)) (turned cs u ∷ [])) in
+      rw s
+      (side-tabled n few (withTurns clashes turns t k) (qs ++ map (turned cs) (take k ts)) (turns-tabled t qs d k (omega arith)) (getD cs (u .clash) noClash) (h .fits k l)
+      (u .side) (getD turns k 0) (getD clashes (getD turns k 0 / 2) 0) (h .side k l) (omega (arith, h .turn k l, h .side k l)) (code-is k l))
+
+-- no turns at all
+pub no-turns : (clashes turns : List ℕ) → TurnsFit clashes turns 0
+no-turns clashes turns = record { clash = λ k p. absurd (omega arith); jobs = λ k p. absurd (omega arith) }
+
+-- ---- the answer
+
+-- the table that `least_starts` fills is the definition's, place by place
+pub table-is : (n : ℕ) (t : List (List ℕ)) (qs : List Delay) → Tabled n t qs → t ≡ map (map placeCode) (table qs)
+unfolding table codeAt placeCode
+table-is n t qs h =
+    ext-getD [] t (map (map placeCode) (table qs)) (h .rows ∙ sym (length-map (table qs) (map placeCode) ∙ listed-length line 24))
+    (λ j p. row j (omega (arith, h .rows)))
+  where
+    -- row j of the definition's table
+    line : ℕ → List (Option ℤ)
+    line j = map (λ i. entry qs i j) (count 0 24)
+
+    long : (j : ℕ) → length (map placeCode (line j)) ≡ 24
+    long j = length-map (line j) placeCode ∙ listed-length (λ i. entry qs i j) 24
+
+    row : (j : ℕ) → j < 24 → getD t j [] ≡ getD (map (map placeCode) (table qs)) j []
+    row j p =
+        ext-getD 0 (getD t j []) (map placeCode (line j)) (h .wide j p ∙ sym (long j))
+        (λ i q.
+        h .place i j (omega (arith, h .wide j p)) p
+        ∙ sym (List·getD-map placeCode (line j) i none ∙ ap placeCode (listed-at (λ i. entry qs i j) none 24 i (omega (arith, h .wide j p)))))
+        ∙ sym (List·getD-map (map placeCode) (table qs) j [] ∙ ap (map placeCode) (listed-at line [] 24 j p))
+
+-- the least starts of the delays and the turns
+pub least-law : (b : Batch) (cs : List Clash) (ts : List Turn) (froms tos codes clashes turns : List ℕ) → 1 ≤ b .n → b .n ≤ 24 → HoldsDelays b froms tos codes → HoldsTurns (b .n) cs ts clashes turns
+    → leastOf (b .n) (b .m) froms tos codes clashes turns (length ts) ≡ leastAs (startsAt cs b ts)
+unfolding leastOf startsAt inequalities delaysOf
+least-law b cs ts froms tos codes clashes turns one few hd ht =
+    let d = delays-tabled b few froms tos codes hd (b .m) (omega arith) in
+    let e : map (turned cs) (take (length ts) ts) ≡ map (turned cs) ts = ap (map (turned cs)) (take-length ts) in
+    settled-is (b .n) few _ _ (rw e at (turns-tabled (b .n) few cs ts clashes turns ht _ _ d (length ts) (omega arith))) one
+
+-- with no turns: the least starts of the delays alone
+pub least-delays : (b : Batch) (froms tos codes clashes turns : List ℕ) → 1 ≤ b .n → b .n ≤ 24 → HoldsDelays b froms tos codes
+    → leastOf (b .n) (b .m) froms tos codes clashes turns 0 ≡ leastAs (leastStarts (b .n) (delaysOf b))
+unfolding leastOf delaysOf withTurns
+least-delays b froms tos codes clashes turns one few h =
+    settled-is (b .n) few _ _ (delays-tabled b few froms tos codes h (b .m) (omega arith)) one
+
+-- there are least starts exactly where the definitions have some
+pub found-is : (o : Option (List ℕ)) → leastAs o .found ≡ isSome o
+unfolding leastAs isSome
+found-is none = refl
+found-is (some l) = refl

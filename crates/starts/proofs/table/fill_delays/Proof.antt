@@ -1,0 +1,76 @@
+-- `fill_delays` meets its contract. The loop's invariant: the first k delays are in the table.
+use borrow.Author.Needs.{needs}
+use native.Mathlib.Omega.{arith}
+use mathlib.Core.Path.{_≡_, refl}
+use Prim.Native.Nat.{_≤_, _-_}
+use Rattle.starts.specs.Table.{withDelays}
+use Rattle.starts.proofs.TableLaws.{delays-none, delays-more}
+use Rattle.starts.proofs.table.fill_delays.Statement.{statement}
+use Rattle.starts.proofs.table.fill_delays.Tie as tie
+
+abbrev Inv-loop : tie.InvT-loop
+Inv-loop table₀ m from to code k₀ table k = (k ≤ m) × (table ≡ withDelays from to code table₀ k)
+
+abbrev μ-loop : tie.MeasureT-loop
+μ-loop table₀ m from to code k₀ table k = m - k
+
+loop-holds : tie.Need-loop-holds Inv-loop μ-loop
+loop-holds c = (search needs, delays-none _ _ _ _)
+
+element-copy-out-job : tie.Need-element-copy-out-job Inv-loop μ-loop
+element-copy-out-job c = search needs
+
+job-requires : tie.Need-job-requires Inv-loop μ-loop
+job-requires c κs = search needs
+
+element-copy-out-job-2 : tie.Need-element-copy-out-job-2 Inv-loop μ-loop
+element-copy-out-job-2 c = search needs
+
+job-requires-2 : tie.Need-job-requires-2 Inv-loop μ-loop
+job-requires-2 c κs = search needs
+
+mul-put : tie.Need-mul-put Inv-loop μ-loop
+mul-put c = search needs
+
+element-copy-out-put : tie.Need-element-copy-out-put Inv-loop μ-loop
+element-copy-out-put c = search needs
+
+put-requires : tie.Need-put-requires Inv-loop μ-loop
+put-requires c κs = (
+  omega (arith, c .before .before .before .job .ensures, c .before .before .before .before .before .before .before .before .pre .1 .from (c .before .before .before .before .before .before .before .loop .k) (c .before .before .before .before .before .before .loop-test .taken)),
+  omega (arith, c .before .job2 .ensures, c .before .before .before .before .before .before .before .before .pre .1 .to (c .before .before .before .before .before .before .before .loop .k) (c .before .before .before .before .before .before .loop-test .taken)),
+)
+
+add-k : tie.Need-add-k Inv-loop μ-loop
+add-k c = search needs
+
+loop-less : tie.Need-loop-less Inv-loop μ-loop
+loop-less c = search needs
+
+loop-again : tie.Need-loop-again Inv-loop μ-loop
+loop-again c = (
+  search needs,
+  delays-more _ _ _ _ _ _ _ _ _ _ (c .before .before .before .before .before .before .before .before .loop .inv .1) (c .before .before .before .before .job .ensures) (c .before .before .job2 .ensures) refl (c .put .ensures),
+)
+
+returns : tie.Need-returns Inv-loop μ-loop
+returns c = let h : c .before .loop .k ≡ c .before .before .args .m = omega arith in rw (← h) (c .before .loop .inv .1)
+
+pub fill-delays-spec : {M : Type 1} → statement M
+fill-delays-spec =
+    tie.close
+    (tie.spec
+    Inv-loop
+    μ-loop
+    loop-holds
+    element-copy-out-job
+    job-requires
+    element-copy-out-job-2
+    job-requires-2
+    mul-put
+    element-copy-out-put
+    put-requires
+    add-k
+    loop-less
+    loop-again
+    returns)

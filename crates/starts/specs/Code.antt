@@ -1,0 +1,44 @@
+-- Weights and clashes as unsigned numbers. A weight w is held as w + 30,000, so that 0 is left for an empty place.
+use Prim.Native.Nat.{ℕ, suc, _+_, _-_, _*_, _<_}
+use mathlib.Core.Option.{Option, none, some}
+use lib.IntN.{ℤ, pos, negsuc}
+use lib.Signed.{_≤ℤ_}
+use Rattle.model.specs.declared.Delay.{Delay}
+use Rattle.model.specs.Clash.{Clash}
+
+-- w is −1,000 to 1,000
+pub record Limited (w : ℤ) : Type 0 where
+  pub low : negsuc 999 ≤ℤ w
+  pub high : w ≤ℤ pos 1000
+
+-- w + 30,000
+unfoldable pub coded : ℤ → ℕ
+coded (pos k) = k + 30000
+coded (negsuc k) = 30000 - suc k
+
+-- a place of the table: 0 if it is empty, else its weight's code
+unfoldable pub placeCode : Option ℤ → ℕ
+placeCode none = 0
+placeCode (some w) = coded w
+
+-- an inequality between jobs below n, with a weight within its limits
+pub record Fits (n : ℕ) (q : Delay) : Type 0 where
+  pub from : q .from < n
+  pub to : q .to < n
+  pub weight : Limited (q .weight)
+
+-- d + 15
+unfoldable pub shifted : ℤ → ℕ
+shifted (pos k) = 15 + k
+shifted (negsuc k) = 14 - k
+
+-- the code of a clash: i * 1024 + j * 32 + (d + 15)
+unfoldable pub clashCode : Clash → ℕ
+clashCode c = c .i * 1024 + c .j * 32 + shifted (c .d)
+
+-- a clash of jobs below n, with a distance of −15 to 15
+pub record ClashFits (n : ℕ) (c : Clash) : Type 0 where
+  pub i : c .i < n
+  pub j : c .j < n
+  pub low : negsuc 14 ≤ℤ c .d
+  pub high : c .d ≤ℤ pos 15

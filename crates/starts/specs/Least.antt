@@ -1,0 +1,46 @@
+-- Least starts by the table, and what the arrays must hold for them to be those of a batch and its turns.
+use Prim.Native.Nat.{ℕ, _+_, _*_, _≤_, _<_}
+use mathlib.Core.Path.{_≡_}
+use mathlib.Core.Bool.{true, false}
+use mathlib.Core.List.{List}
+use mathlib.Core.Option.{Option, none, some}
+use lib.ListN.{getD, length, replicate}
+use Rattle.model.specs.declared.Batch.{Batch}
+use Rattle.model.specs.declared.Turn.{Turn}
+use Rattle.model.specs.Common.{pad}
+use Rattle.model.specs.Batch.{delayOf}
+use Rattle.model.specs.Clash.{Clash}
+use Rattle.model.specs.Search.{noClash, empty}
+use Rattle.starts.specs.declared.Least.{Least}
+use Rattle.starts.specs.Code.{Limited, coded, clashCode, ClashFits}
+use Rattle.starts.specs.Rounds.{leastFrom}
+use Rattle.starts.specs.Table.{withDelays, withTurns, emptyTable}
+
+-- the least starts of the first m delays and the first depth turns, over n jobs
+unfoldable pub leastOf : ℕ → ℕ → List ℕ → List ℕ → List ℕ → List ℕ → List ℕ → ℕ → Least
+leastOf n m from to code clashes turns depth =
+    leastFrom (withTurns clashes turns (withDelays from to code emptyTable m) depth) (replicate 24 0) n n
+
+-- the answer for least starts as the definitions have them
+unfoldable pub leastAs : Option (List ℕ) → Least
+leastAs none = record { found = false; starts = replicate 24 0 }
+leastAs (some starts) = record { found = true; starts = pad 24 0 starts }
+
+-- the arrays hold the batch's delays, which are within their limits
+pub record HoldsDelays (b : Batch) (froms tos codes : List ℕ) : Type 0 where
+  pub few : b .m ≤ 128
+  pub from : (k : ℕ) → k < b .m → getD froms k 0 ≡ delayOf b k .from
+  pub to : (k : ℕ) → k < b .m → getD tos k 0 ≡ delayOf b k .to
+  pub code : (k : ℕ) → k < b .m → getD codes k 0 ≡ coded (delayOf b k .weight)
+  pub fromFits : (k : ℕ) → k < b .m → delayOf b k .from < b .n
+  pub toFits : (k : ℕ) → k < b .m → delayOf b k .to < b .n
+  pub weightFits : (k : ℕ) → k < b .m → Limited (delayOf b k .weight)
+
+-- the arrays hold the turns of a path over a list of clashes: turn 2 * clash + side, and the code of each clash that a turn is on
+pub record HoldsTurns (n : ℕ) (cs : List Clash) (ts : List Turn) (clashes turns : List ℕ) : Type 0 where
+  pub few : length ts ≤ 1024
+  pub turn : (k : ℕ) → k < length ts → getD turns k 0 ≡ 2 * getD ts k empty .clash + getD ts k empty .side
+  pub side : (k : ℕ) → k < length ts → getD ts k empty .side ≤ 1
+  pub clash : (k : ℕ) → k < length ts → getD ts k empty .clash < 1024
+  pub code : (k : ℕ) → k < length ts → getD clashes (getD ts k empty .clash) 0 ≡ clashCode (getD cs (getD ts k empty .clash) noClash)
+  pub fits : (k : ℕ) → k < length ts → ClashFits n (getD cs (getD ts k empty .clash) noClash)

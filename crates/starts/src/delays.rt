@@ -1,0 +1,64 @@
+// A batch's delays as plain parallel arrays, and its jobs' ticks: what a search copies out of the batch once.
+use model::Batch;
+ghost use mathlib.Core.Path.{_≡_};
+ghost use Prim.Native.Nat.{_≤_};
+ghost use Rattle.starts.specs.Code.{Limited, coded};
+ghost use Rattle.starts.specs.Delays.{Readable, delaysRead, ticksRead};
+
+// The first m places count: from, to, and the weight plus 30,000. The others are 0.
+pub struct Delays {
+    pub from: [u8; 128],
+    pub to: [u8; 128],
+    pub code: [u16; 128],
+}
+
+// A weight plus 30,000.
+fn code_of(w: i16) -> u16
+    requires { ⌜ Limited w ⌝ }
+    ensures { λ r. ⌜ r ≡ coded w ⌝ }
+{
+    let lifted = (w + 1000) as u16;
+    lifted + 29000
+}
+
+pub fn wide(x: u8) -> usize
+    ensures { λ r. ⌜ r ≡ x ⌝ }
+{
+    x as usize
+}
+
+pub fn delays_of(batch: Batch) -> Delays
+    requires { ⌜ Readable batch ⌝ }
+    ensures { λ r. ⌜ r ≡ delaysRead batch ⌝ }
+{
+    let mut from = [0u8; 128];
+    let mut to = [0u8; 128];
+    let mut code = [0u16; 128];
+    let m = wide(batch.m);
+    let mut k: usize = 0;
+    while k < m {
+        let q = batch.delays[k];
+        let w = q.weight;
+        from[k] = q.from;
+        to[k] = q.to;
+        code[k] = code_of(w);
+        k = k + 1;
+    }
+    Delays { from, to, code }
+}
+
+// The ticks of each of the first n jobs, and 0 in the places past them.
+pub fn ticks_of(batch: Batch) -> [u8; 24]
+    requires { ⌜ batch .n ≤ 24 ⌝ }
+    ensures { λ r. ⌜ r ≡ ticksRead batch ⌝ }
+{
+    let mut ticks = [0u8; 24];
+    let n = wide(batch.n);
+    let mut i: usize = 0;
+    while i < n {
+        let job = batch.jobs[i];
+        ticks[i] = job.ticks;
+        i = i + 1;
+    }
+    ticks
+}

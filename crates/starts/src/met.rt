@@ -1,0 +1,23 @@
+// Whether some starts meet a batch's delays: they do exactly where the delays alone have least starts.
+use crate::delays::delays_of;
+use crate::delays::wide;
+use crate::least_starts;
+use model::Batch;
+ghost use mathlib.Core.Path.{_≡_};
+ghost use Rattle.model.specs.Open.{delaysMet};
+ghost use Rattle.starts.specs.Delays.{DelaysSound};
+
+pub fn delays_met(batch: Batch) -> bool
+    requires { ⌜ DelaysSound batch ⌝ }
+    ensures { λ r. ⌜ r ≡ delaysMet batch ⌝ }
+{
+    let delays = delays_of(batch);
+    let from = delays.from;
+    let to = delays.to;
+    let code = delays.code;
+    let none = [0u16; 1024];
+    let n = wide(batch.n);
+    let m = wide(batch.m);
+    let least = least_starts(n, m, &from, &to, &code, &none, &none, 0);
+    least.found
+}
