@@ -43,7 +43,7 @@ opening-leaves file =
 -- ---- running
 
 -- no node changes the batch
-nodes-batch : (cs : List Clash) (k : ℕ) (s : Search) → nodesOn cs k s .batch ≡ s .batch
+pub nodes-batch : (cs : List Clash) (k : ℕ) (s : Search) → nodesOn cs k s .batch ≡ s .batch
 unfolding nodesOn node searchOf
 nodes-batch cs zero s = refl
 nodes-batch cs (suc k) s = go (s .ended) (nodes-batch cs k (node cs s))

@@ -1,0 +1,11 @@
+-- The laws behind the proofs of the search.
+pub mod BackLaws
+pub mod PathLaws
+pub mod AnswerLaws
+pub mod NodeLaws
+pub mod WorksLaws
+pub mod VisitLaws
+pub mod NodesLaws
+pub mod RecordLaws
+pub mod RunLaws
+pub mod AdvanceLaws

@@ -1,0 +1,110 @@
+-- A record examined: soundness as the code takes it apart, and what a run works on where no part fails.
+use Prim.Native.Nat.{ℕ, _≤_, _<_}
+use mathlib.Core.Path.{_≡_, refl, ap, sym, _∙_, subst}
+use mathlib.Core.Bool.{Bool, true, false, _&&_, not}
+use mathlib.Core.List.{List}
+use native.Mathlib.Omega.{arith}
+use lib.ListN.{length}
+use lib.Dec.{leb}
+use borrow.Author.Tests.{le-leb, lt-leb}
+use Rattle.model.specs.declared.Batch.{Batch}
+use Rattle.model.specs.declared.Turn.{Turn}
+use Rattle.model.specs.declared.Search.{Search}
+use Rattle.model.specs.Common.{all, count}
+use Rattle.model.specs.Batch.{ticks, delaysOf}
+use Rattle.model.specs.Clash.{clashes}
+use Rattle.model.specs.Open.{countsOk, ticksOk, jobsOk, weightOk, fewClashes, delaysMet}
+use Rattle.model.specs.Sound.{soundBatch, soundPath, soundBest, sound}
+use Rattle.model.proofs.ListLaws.{apart, both, and}
+use Rattle.clashes.specs.declared.Clashes.{Clashes}
+use Rattle.clashes.specs.List.{listOf}
+use Rattle.clashes.proofs.ListedLaws.{list-count}
+use Rattle.starts.specs.declared.delays.Delays.{Delays}
+use Rattle.starts.specs.Delays.{delaysRead, ticksRead}
+use Rattle.soundness.specs.declared.path.Route.{Route}
+use Rattle.soundness.specs.declared.Examined.{Examined}
+use Rattle.soundness.specs.Limits.{ticksPass, delaysPass, limitsPass}
+use Rattle.soundness.specs.Path.{Reads}
+use Rattle.soundness.specs.Examined.{stateSound, Examines}
+use Rattle.soundness.proofs.BoolLaws.{and-false, test-passed, test-failed}
+use Rattle.soundness.proofs.StateLaws.{path-read}
+
+-- ---- soundness in the code's order
+
+batch-parts : (b : Batch) → soundBatch b ≡ ((limitsPass b && fewClashes b) && delaysMet b)
+unfolding soundBatch limitsPass ticksPass delaysPass
+batch-parts b = go (countsOk (b .n) (b .m) && all (λ i. ticksOk (ticks b i)) (count 0 (b .n)))
+  where
+    go : (p : Bool) → ((((p && all (jobsOk (b .n)) (delaysOf b)) && all weightOk (delaysOf b)) && fewClashes b) && delaysMet b)
+        ≡ (((p && (all (jobsOk (b .n)) (delaysOf b) && all weightOk (delaysOf b))) && fewClashes b) && delaysMet b)
+    go true = refl
+    go false = refl
+
+sound-parts : (s : Search) → sound s ≡ (((limitsPass (s .batch) && fewClashes (s .batch)) && delaysMet (s .batch)) && stateSound s)
+unfolding sound stateSound
+sound-parts s = go (soundBatch (s .batch)) ∙ ap (λ (p : Bool). p && stateSound s) (batch-parts (s .batch))
+  where
+    go : (p : Bool) → (((p && soundPath s) && leb (s .total) 100000000) && soundBest (s .batch .n) (s .best) (s .starts))
+        ≡ (p && ((soundPath s && leb (s .total) 100000000) && soundBest (s .batch .n) (s .best) (s .starts)))
+    go true = refl
+    go false = refl
+
+-- ---- a record that is not sound
+
+module _ (s : Search) (r : Examined) (no : r .sound ≡ false) where
+  unsound-told : sound s ≡ false → Examines s r
+  unsound-told e = record { told = no ∙ sym e; ready = λ y. apart (sym no ∙ y) }
+
+  pub past-limits : (x : Bool) → x ≡ limitsPass (s .batch) → not x ≡ true → Examines s r
+  past-limits x p e =
+      unsound-told
+      (sound-parts s
+      ∙ ap (λ (q : Bool). ((q && fewClashes (s .batch)) && delaysMet (s .batch)) && stateSound s) (test-failed x (limitsPass (s .batch)) p e))
+
+  pub many-clashes : (l : Clashes) → l ≡ listOf (s .batch) → 1024 < l .count → Examines s r
+  unfolding fewClashes
+  many-clashes l e h =
+      let d : fewClashes (s .batch) ≡ false = lt-leb (length (clashes (s .batch))) 1024 (omega (arith, list-count (s .batch) l e)) in
+      unsound-told
+      (sound-parts s
+      ∙ ap (λ (q : Bool). ((limitsPass (s .batch) && q) && delaysMet (s .batch)) && stateSound s) d
+      ∙ ap (λ (q : Bool). (q && delaysMet (s .batch)) && stateSound s) (and-false (limitsPass (s .batch))))
+
+  pub delays-unmet : (x : Bool) → x ≡ delaysMet (s .batch) → not x ≡ true → Examines s r
+  delays-unmet x p e =
+      unsound-told
+      (sound-parts s
+      ∙ ap (λ (q : Bool). ((limitsPass (s .batch) && fewClashes (s .batch)) && q) && stateSound s) (test-failed x (delaysMet (s .batch)) p e)
+      ∙ ap (λ (q : Bool). q && stateSound s) (and-false (limitsPass (s .batch) && fewClashes (s .batch))))
+
+-- ---- a record that passes
+
+-- a route that was read with the list's count was read with D
+pub counted : (b : Batch) (path : List Turn) (l : Clashes) (r : Route) → l ≡ listOf b → Reads path (l .count) r → Reads path (length (clashes b)) r
+counted b path l r e h = subst (λ (n : ℕ). Reads path n r) (list-count b l e) h
+
+-- a sound state has a sound path
+state-read : (s : Search) (r : Route) → Reads (s .path) (length (clashes (s .batch))) r → stateSound s ≡ true → r .sound ≡ true
+unfolding stateSound
+state-read s r h e =
+    path-read s r h (both (soundPath s) (leb (s .total) 100000000) (both _ (soundBest (s .batch .n) (s .best) (s .starts)) e .0) .0)
+
+module _ (s : Search) (x met y : Bool) (l : Clashes) (r : Route) (d : Delays) (t : List ℕ) where
+  -- the batch passes, so the state decides; and the record holds what a run works on
+  pub examined : x ≡ limitsPass (s .batch) → not x ≡ false → l ≡ listOf (s .batch) → l .count ≤ 1024 → met ≡ delaysMet (s .batch) → not met ≡ false
+      → Reads (s .path) (l .count) r → y ≡ stateSound s → d ≡ delaysRead (s .batch) → t ≡ ticksRead (s .batch)
+      → Examines s (record { sound = y; clashes = l; delays = d; ticks = t; turns = r .turns; depth = r .depth })
+  unfolding fewClashes
+  examined p p′ c few m m′ h e f g =
+      let few′ : fewClashes (s .batch) ≡ true = le-leb (length (clashes (s .batch))) 1024 (omega (arith, list-count (s .batch) l c)) in
+      let pass = and (and (test-passed x (limitsPass (s .batch)) p p′) few′) (test-passed met (delaysMet (s .batch)) m m′) in
+      record {
+        told = e ∙ sym (sound-parts s ∙ ap (λ (q : Bool). q && stateSound s) pass);
+        ready = λ z.
+            record {
+              clashes = c;
+              delays = f;
+              ticks = g;
+              path = h .coded (state-read s r (counted (s .batch) (s .path) l r c h) (sym e ∙ z));
+            };
+      }

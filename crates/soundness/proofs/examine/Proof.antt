@@ -1,0 +1,82 @@
+-- `examine` meets its contract. Each early return is a part of soundness that fails; past them the state decides.
+use borrow.Author.Needs.{needs}
+use Rattle.soundness.proofs.BatchLaws.{limits-jobs, limits-tabled, limits-readable, limits-delays}
+use Rattle.soundness.proofs.ExamineLaws.{past-limits, many-clashes, delays-unmet, counted, examined}
+use Rattle.soundness.proofs.examine.Statement.{statement}
+use Rattle.soundness.proofs.examine.Tie as tie
+
+limits-ok-requires : tie.Need-limits-ok-requires
+limits-ok-requires c κs = search needs
+
+unsound-requires : tie.Need-unsound-requires
+unsound-requires c κs = search needs
+
+returns : tie.Need-returns
+returns c = past-limits _ _ (c .unsound .ensures) _ (c .before .before .limits-ok .ensures) (c .before .if1 .taken)
+
+list-clashes-requires : tie.Need-list-clashes-requires
+list-clashes-requires c κs = limits-tabled _ _ (c .before .limits-ok .ensures) (c .if1 .left)
+
+unsound-requires-2 : tie.Need-unsound-requires-2
+unsound-requires-2 c κs = search needs
+
+returns-2 : tie.Need-returns-2
+returns-2 c = many-clashes _ _ (c .unsound2 .ensures) _ (c .before .before .list-clashes .ensures) (c .before .if2 .taken)
+
+delays-met-requires : tie.Need-delays-met-requires
+delays-met-requires c κs = limits-delays _ _ (c .before .before .before .limits-ok .ensures) (c .before .before .if1 .left)
+
+unsound-requires-3 : tie.Need-unsound-requires-3
+unsound-requires-3 c κs = search needs
+
+returns-3 : tie.Need-returns-3
+returns-3 c = delays-unmet _ _ (c .unsound3 .ensures) _ (c .before .before .delays-met .ensures) (c .before .if3 .taken)
+
+read-path-requires : tie.Need-read-path-requires
+read-path-requires c κs = search needs
+
+state-ok-requires : tie.Need-state-ok-requires
+state-ok-requires c κs =
+    let listed = c .before .before .before .before .before .before in (
+      counted _ _ _ _ (listed .list-clashes .ensures) (c .before .read-path .ensures),
+      limits-jobs _ _ (listed .before .before .limits-ok .ensures) (listed .before .if1 .left),
+    )
+
+delays-of-requires : tie.Need-delays-of-requires
+delays-of-requires c κs =
+    let passed = c .before .before .before .before .before .before .before .before in
+    limits-readable _ _ (passed .before .limits-ok .ensures) (passed .if1 .left)
+
+ticks-of-requires : tie.Need-ticks-of-requires
+ticks-of-requires c κs =
+    let passed = c .before .before .before .before .before .before .before .before .before in
+    limits-jobs _ _ (passed .before .limits-ok .ensures) (passed .if1 .left)
+
+returns-4 : tie.Need-returns-4
+returns-4 c =
+    let read = c .before .before .before .before in
+    let met = read .before .before in
+    let few = met .before .before in
+    let passed = few .before .before in
+    examined _ _ _ _ _ _ _ _ (passed .before .limits-ok .ensures) (passed .if1 .left) (few .before .list-clashes .ensures) (few .if2 .left)
+    (met .before .delays-met .ensures) (met .if3 .left) (read .read-path .ensures) (c .before .before .state-ok .ensures) (c .before .delays-of .ensures)
+    (c .ticks-of .ensures)
+
+pub examine-spec : {M : Type 1} → statement M
+examine-spec =
+    tie.close
+    (tie.spec
+    limits-ok-requires
+    unsound-requires
+    returns
+    list-clashes-requires
+    unsound-requires-2
+    returns-2
+    delays-met-requires
+    unsound-requires-3
+    returns-3
+    read-path-requires
+    state-ok-requires
+    delays-of-requires
+    ticks-of-requires
+    returns-4)

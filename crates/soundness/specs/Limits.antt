@@ -1,0 +1,33 @@
+-- Parts of the definition of a sound record that one loop tests: the ticks, the delays, the starts.
+use Prim.Native.Nat.{ℕ, _-_}
+use mathlib.Core.Bool.{Bool, _&&_}
+use mathlib.Core.List.{List}
+use lib.IntN.{ℤ, pos, negsuc}
+use lib.Signed.{leZ}
+use lib.Dec.{leb}
+use Rattle.model.specs.declared.Batch.{Batch}
+use Rattle.model.specs.Common.{all, count}
+use Rattle.model.specs.Limits.{mostWeight, mostStart}
+use Rattle.model.specs.Batch.{ticks, delaysOf}
+use Rattle.model.specs.Plan.{start}
+use Rattle.model.specs.Open.{countsOk, ticksOk, jobsOk, weightOk}
+
+-- a weight is −1,000 to 1,000
+unfoldable pub weightIn : ℤ → Bool
+weightIn w = leZ (negsuc (mostWeight - 1)) w && leZ w (pos mostWeight)
+
+-- each p is within its limits
+unfoldable pub ticksPass : Batch → Bool
+ticksPass b = all (λ i. ticksOk (ticks b i)) (count 0 (b .n))
+
+-- each delay's jobs and weight are within their limits
+unfoldable pub delaysPass : Batch → Bool
+delaysPass b = all (jobsOk (b .n)) (delaysOf b) && all weightOk (delaysOf b)
+
+-- the batch passes 4, 5 and 6
+unfoldable pub limitsPass : Batch → Bool
+limitsPass b = countsOk (b .n) (b .m) && ticksPass b && delaysPass b
+
+-- the first n starts are at most 23,000
+unfoldable pub startsPass : ℕ → List ℕ → Bool
+startsPass n starts = all (λ i. leb (start starts i) mostStart) (count 0 n)

@@ -1,0 +1,89 @@
+// Whether a record from anywhere is sound, and in the same pass what a run works on: the clash list, the delays and the ticks as
+// arrays, and the path's turns as numbers. Nothing past a limit is read before the limit is known to hold.
+use crate::limits::limits_ok;
+use crate::path::read_path;
+use crate::state::state_ok;
+use clashes::Clashes;
+use clashes::list_clashes;
+use model::Search;
+use starts::delays::Delays;
+use starts::delays::delays_of;
+use starts::delays::ticks_of;
+use starts::met::delays_met;
+ghost use mathlib.Core.Path.{_≡_};
+ghost use mathlib.Core.Bool.{false};
+ghost use Rattle.model.specs.Sound.{sound};
+ghost use Rattle.soundness.specs.Examined.{Examines};
+
+mod best;
+mod limits;
+mod path;
+mod state;
+
+// What a run works on, if the record is sound; otherwise only that it is not. Turn k is 2 * clash + side, for k below depth.
+pub struct Examined {
+    pub sound: bool,
+    pub clashes: Clashes,
+    pub delays: Delays,
+    pub ticks: [u8; 24],
+    pub turns: [u16; 1024],
+    pub depth: usize,
+}
+
+// A record that is not sound.
+fn unsound() -> Examined
+    ensures { λ r. ⌜ r .sound ≡ false ⌝ }
+{
+    Examined {
+        sound: false,
+        clashes: Clashes {
+            count: 0,
+            codes: [0u16; 1024],
+        },
+        delays: Delays {
+            from: [0u8; 128],
+            to: [0u8; 128],
+            code: [0u16; 128],
+        },
+        ticks: [0u8; 24],
+        turns: [0u16; 1024],
+        depth: 0,
+    }
+}
+
+// Whether the record is sound, and if it is, what a run works on.
+pub fn examine(search: Search) -> Examined
+    ensures { λ r. ⌜ Examines search r ⌝ }
+{
+    let batch = search.batch;
+    if !limits_ok(batch) {
+        return unsound();
+    }
+    let clashes = list_clashes(batch);
+    let count = clashes.count;
+    if 1024 < count {
+        return unsound();
+    }
+    if !delays_met(batch) {
+        return unsound();
+    }
+    let path = search.path;
+    let route = read_path(path, count);
+    let turns = route.turns;
+    Examined {
+        sound: state_ok(search, route),
+        clashes: clashes,
+        delays: delays_of(batch),
+        ticks: ticks_of(batch),
+        turns: turns,
+        depth: route.depth,
+    }
+}
+
+// Whether the record is sound.
+pub fn is_sound(search: Search) -> bool
+    ensures { λ r. ⌜ r ≡ sound search ⌝ }
+{
+    let examined = examine(search);
+    examined.sound
+}
