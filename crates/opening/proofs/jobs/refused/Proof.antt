@@ -1,0 +1,14 @@
+-- `refused` has blank jobs beside the number.
+use mathlib.Core.Path.{refl}
+use Rattle.model.specs.Common.{pad}
+use Rattle.model.specs.Batch.{blankJob}
+use Rattle.opening.specs.Read.{nextOf, arrayOf, jobsTold}
+use Rattle.opening.proofs.jobs.refused.Statement.{statement}
+use Rattle.opening.proofs.jobs.refused.Tie as tie
+
+returns : tie.Need-returns
+unfolding jobsTold nextOf arrayOf pad blankJob
+returns c = refl
+
+pub refused-spec : {M : Type 1} → statement M
+refused-spec = tie.close (tie.spec returns)

@@ -1,0 +1,2 @@
+-- The demands, proved of what the public calls return.
+pub mod Demands

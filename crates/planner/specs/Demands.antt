@@ -1,0 +1,74 @@
+-- The three demands, as statements about what the calls return. Every hypothesis of the form r ≡ opened file, (r, list′) ≡ ran s budget list or
+-- (w, buffer′) ≡ written text buffer is word for word what the contract of that call says of its result and of the caller's memory.
+use Prim.Native.Nat.{ℕ, _≤_}
+use mathlib.Core.Path.{_≡_}
+use mathlib.Core.Logic.{_↔_}
+use mathlib.Core.Bool.{true, false}
+use mathlib.Core.Option.{some}
+use mathlib.Core.List.{List, [], _∷_, _++_}
+use lib.ListN.{length, drop}
+use Rattle.model.specs.declared.Batch.{Batch}
+use Rattle.model.specs.declared.Search.{Search}
+use Rattle.model.specs.declared.Opened.{Opened}
+use Rattle.model.specs.declared.Ran.{Ran}
+use Rattle.model.specs.declared.Written.{Written}
+use Rattle.model.specs.declared.Written.the-variants.{Bytes}
+use Rattle.model.specs.Common.{Outcome, refuse, accept}
+use Rattle.model.specs.Search.{freshSearch, Ends, nodeLimit}
+use Rattle.model.specs.Format.{BatchFile}
+use Rattle.model.specs.Open.{openFile, opened, blankSearch}
+use Rattle.model.specs.Run.{ran}
+use Rattle.model.specs.Text.{planLines, planText, batchText, written}
+use Rattle.model.specs.Answers.{Verdict, plan, runTold, openTold, bestTold}
+use Rattle.model.specs.Calls.{Call, refuses, granted}
+use Rattle.model.specs.Demands.{RunLeaves, WritingLeaves, PlanWith, Reached, AnswerFor}
+
+-- t is the record after a list of run calls on s, each call getting the record that the one before returned
+pub data Called : Search → List Call → Search → Type 0 where
+  none : {s : Search} → Called s [] s
+  more : {s t : Search} {c : Call} {cs : List Call} (r : Ran) (list′ : List ℕ) → (r, list′) ≡ ran s (c .budget) (c .starts) → Called (r .search) cs t → Called s (c ∷ cs) t
+
+-- ---- demand 1: what each call leaves, for every file, budget, record and buffer, refusals included
+
+pub record Demand1 : Type 0 where
+  pub refused-opening : (file : List ℕ) (o : Opened) → o ≡ opened file → (k : ℕ) → openFile file ≡ refuse k → (openTold (o .answer) ≡ refuse k) × (o .search ≡ blankSearch)
+  pub accepted-opening : (file : List ℕ) (o : Opened) → o ≡ opened file → (b : Batch) → openFile file ≡ accept b → (openTold (o .answer) ≡ accept tt) × (o .search ≡ freshSearch b)
+  pub running : (s : Search) (budget : ℕ) (list : List ℕ) (r : Ran) (list′ : List ℕ) → (r, list′) ≡ ran s budget list → RunLeaves s budget list r list′
+  pub plan-writing : (s : Search) (buffer : List ℕ) (w : Written) (buffer′ : List ℕ) → (w, buffer′) ≡ written (planText s) buffer → WritingLeaves (planText s) buffer w buffer′
+  pub batch-writing : (s : Search) (buffer : List ℕ) (w : Written) (buffer′ : List ℕ) → (w, buffer′) ≡ written (batchText s) buffer → WritingLeaves (batchText s) buffer w buffer′
+
+-- ---- demand 2: what is opened, that it is written back, and the plans of a search opened here
+
+pub record Demand2 (file : List ℕ) (o : Opened) : Type 0 where
+  pub opens : (openTold (o .answer) ≡ accept tt) ↔ ((b : Batch) × BatchFile file b)
+  pub yields : (b : Batch) → BatchFile file b → o .search ≡ freshSearch b
+  pub written-back :
+      (b : Batch) → BatchFile file b → (cs : List Call) (s : Search) → Called (o .search) cs s
+      → (buffer : List ℕ) (w : Written) (buffer′ : List ℕ) → length file ≤ length buffer → (w, buffer′) ≡ written (batchText s) buffer
+      → (w ≡ Bytes (length file)) × (buffer′ ≡ file ++ drop (length file) buffer)
+  pub best-plans : (b : Batch) → BatchFile file b → (cs : List Call) (s : Search) → Called (o .search) cs s → (l : ℕ) → bestTold (s .best) ≡ some l → PlanWith b (s .starts) l
+  pub answer-plans :
+      (b : Batch) → BatchFile file b → (cs : List Call) (s : Search) → Called (o .search) cs s
+      → (c : Call) (r : Ran) (list′ : List ℕ) → (r, list′) ≡ ran s (c .budget) (c .starts) → (l t : ℕ) → runTold (r .answer) ≡ accept (plan l t) → PlanWith b list′ l
+  pub text-plans :
+      (b : Batch) → BatchFile file b → (cs : List Call) (s : Search) → Called (o .search) cs s → s .ended ≡ true
+      → planText s ≡ accept (planLines (s .best) (b .n) (s .starts) (s .total))
+
+-- ---- demand 3: every list of run calls on a freshly opened search
+
+-- the last call of a list: refused exactly when the table refuses it, and otherwise answered as S and N say
+pub record LastCall (b : Batch) (N : ℕ) (before : List Call) (c : Call) (r : Ran) (list′ : List ℕ) : Type 0 where
+  pub refused : (refuses b N (granted b N 0 before) c ≡ true) ↔ ((k : ℕ) × (runTold (r .answer) ≡ refuse k))
+  pub answered : refuses b N (granted b N 0 before) c ≡ false → AnswerFor b N (granted b N 0 (before ++ (c ∷ []))) (runTold (r .answer)) list′
+
+pub record Demand3 (o : Opened) : Type 0 where
+  pub N : ℕ
+  pub ends : Ends (o .search .batch) N
+  pub only : (M : ℕ) → Ends (o .search .batch) M → M ≡ N
+  pub bound : N ≤ nodeLimit (o .search .batch)
+  -- after every list, the empty one too: record, total, unfinished
+  pub reached : (cs : List Call) (s : Search) → Called (o .search) cs s → Reached (o .search .batch) N (granted (o .search .batch) N 0 cs) s
+  -- and its last call, if there is one
+  pub last :
+      (before : List Call) (s : Search) → Called (o .search) before s
+      → (c : Call) (r : Ran) (list′ : List ℕ) → (r, list′) ≡ ran s (c .budget) (c .starts) → LastCall (o .search .batch) N before c r list′

@@ -1,0 +1,2 @@
+-- The demands as statements about what the public calls return.
+pub mod Demands

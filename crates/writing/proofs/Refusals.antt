@@ -1,0 +1,65 @@
+-- What the tests before a text decide: refusal 12, for a plan 15, and what soundness says of a batch that is to be written.
+use Prim.Native.Nat.{ℕ}
+use mathlib.Core.Path.{_≡_, ap, ap₂, sym, _∙_}
+use mathlib.Core.Bool.{Bool, true, false, not}
+use mathlib.Core.List.{List}
+use borrow.Author.Tests.{not-true, not-false}
+use Rattle.model.specs.declared.Search.{Search}
+use Rattle.model.specs.Common.{Outcome, refuse, accept, _>>=_, require}
+use Rattle.model.specs.Format.{batchFile}
+use Rattle.model.specs.Sound.{sound}
+use Rattle.model.specs.Text.{planLines, planText, batchText}
+use Rattle.model.proofs.LimitLaws.{counts-iff}
+use Rattle.model.proofs.SoundLaws.{record-passes, passes-fit}
+use Rattle.writing.specs.Bounded.{Bounded}
+
+-- a sound record's batch stays within its arrays
+pub sound-bounded : (s : Search) → sound s ≡ true → Bounded (s .batch)
+sound-bounded s h =
+    let passes = record-passes s h in
+    let fits = passes-fit (s .batch) passes in
+    record {
+      jobs = fits .jobs;
+      delays = counts-iff (s .batch .n) (s .batch .m) .0 (passes .counts) .1;
+      ticks-each = fits .short;
+    }
+
+-- what a negated test of a call's answer says of the definition
+pub told-no : {r t : Bool} → r ≡ t → not r ≡ true → t ≡ false
+told-no {r} e h = sym e ∙ not-true r h
+
+pub told-yes : {r t : Bool} → r ≡ t → not r ≡ false → t ≡ true
+told-yes {r} e h = sym e ∙ not-false r h
+
+-- ---- the batch text
+
+asked : Bool → List ℕ → Outcome (List ℕ)
+asked sound text = require 12 sound >>= (λ _. accept text)
+
+pub batch-unsound : (s : Search) → sound s ≡ false → refuse 12 ≡ batchText s
+unfolding batchText asked require _>>=_
+batch-unsound s h = ap (λ (p : Bool). asked p (batchFile (s .batch))) (sym h)
+
+pub batch-sound : (s : Search) → sound s ≡ true → accept (batchFile (s .batch)) ≡ batchText s
+unfolding batchText asked require _>>=_
+batch-sound s h = ap (λ (p : Bool). asked p (batchFile (s .batch))) (sym h)
+
+-- ---- the plan text
+
+asked-both : Bool → Bool → List ℕ → Outcome (List ℕ)
+asked-both sound ended text = require 12 sound >>= (λ _. require 15 ended >>= (λ _. accept text))
+
+textOf : Search → List ℕ
+textOf s = planLines (s .best) (s .batch .n) (s .starts) (s .total)
+
+pub plan-unsound : (s : Search) → sound s ≡ false → refuse 12 ≡ planText s
+unfolding planText asked-both textOf require _>>=_
+plan-unsound s h = ap (λ (p : Bool). asked-both p (s .ended) (textOf s)) (sym h)
+
+pub plan-open : (s : Search) → sound s ≡ true → s .ended ≡ false → refuse 15 ≡ planText s
+unfolding planText asked-both textOf require _>>=_
+plan-open s h e = ap₂ (λ (p q : Bool). asked-both p q (textOf s)) (sym h) (sym e)
+
+pub plan-ended : (s : Search) → sound s ≡ true → s .ended ≡ true → accept (planLines (s .best) (s .batch .n) (s .starts) (s .total)) ≡ planText s
+unfolding planText asked-both textOf require _>>=_
+plan-ended s h e = ap₂ (λ (p q : Bool). asked-both p q (textOf s)) (sym h) (sym e)

@@ -1,0 +1,77 @@
+-- Each turn of `put_delays` puts one delay line behind those before it.
+use Prim.Native.Nat.{_≤_, _-_}
+use mathlib.Core.Path.{ap}
+use native.Mathlib.Omega.{arith}
+use borrow.Author.Needs.{needs}
+use lib.ListN.{length}
+use Rattle.model.specs.Batch.{blankDelay, delayOf}
+use Rattle.writing.proofs.Pieces.{Filled, filled-none, filled-more, filled-all}
+use Rattle.writing.proofs.Lengths.{delay-length}
+use Rattle.writing.proofs.Texts.{delayPiece, delays-text, delays-size}
+use Rattle.writing.proofs.batch.put_delays.Statement.{statement}
+use Rattle.writing.proofs.batch.put_delays.Tie as tie
+
+abbrev Inv-loop : tie.InvT-loop
+Inv-loop buffer₀ at batch m next₀ k₀ buffer next k = (k ≤ m) × Filled (delayPiece batch) buffer₀ at k next buffer
+
+abbrev μ-loop : tie.MeasureT-loop
+μ-loop buffer₀ at batch m next₀ k₀ buffer next k = m - k
+
+wide-requires : tie.Need-wide-requires Inv-loop μ-loop
+wide-requires c κs = search needs
+
+loop-holds : tie.Need-loop-holds Inv-loop μ-loop
+loop-holds c = (search needs, filled-none _ _ _)
+
+mul-delay : tie.Need-mul-delay Inv-loop μ-loop
+mul-delay c = search needs
+
+element-copy-out-delay : tie.Need-element-copy-out-delay Inv-loop μ-loop
+element-copy-out-delay c = search needs
+
+put-delay-requires : tie.Need-put-delay-requires Inv-loop μ-loop
+put-delay-requires c κs = omega (arith, delays-size (c .before .before .before .before .before .before .args .t3) (c .before .before .before .loop .k))
+
+add-k : tie.Need-add-k Inv-loop μ-loop
+add-k c = search needs
+
+loop-less : tie.Need-loop-less Inv-loop μ-loop
+loop-less c = search needs
+
+loop-again : tie.Need-loop-again Inv-loop μ-loop
+unfolding delayOf blankDelay
+loop-again c =
+    let batch = c .before .before .before .before .before .before .before .before .before .args .t3 in
+    let put = c .before .before .put-delay .ensures in (
+      search needs,
+      filled-more _ _ _ (batch .m) (omega (arith, delays-size batch (batch .m))) (c .before .before .before .before .before .before .loop .inv .1) (omega arith)
+          (delay-length _)
+          (put .0)
+          (put .1),
+    )
+
+same-length : tie.Need-same-length Inv-loop μ-loop
+same-length c = c .before .loop .inv .1 .same-length
+
+returns : tie.Need-returns Inv-loop μ-loop
+returns c =
+    let batch = c .before .before .before .before .args .t3 in
+    let all = filled-all _ _ _ (batch .m) _ (c .before .loop .inv .1) (omega arith) (delays-text batch) in
+    (omega (arith, all .0, delays-size batch (batch .m), ap length (delays-text batch)), all .1)
+
+pub put-delays-spec : {M : Type 1} → statement M
+put-delays-spec =
+    tie.close
+    (tie.spec
+    Inv-loop
+    μ-loop
+    wide-requires
+    loop-holds
+    mul-delay
+    element-copy-out-delay
+    put-delay-requires
+    add-k
+    loop-less
+    loop-again
+    same-length
+    returns)

@@ -1,0 +1,104 @@
+// The batch text: the header, the n job lines, the m delay lines, each put where the one before it ends. Its length is worked out
+// first, so that nothing is put into a buffer that is too short.
+ghost use mathlib.Core.Path.{_≡_};
+ghost use Prim.Native.Nat.{_+_, _*_, _≤_};
+ghost use lib.ListN.{length};
+ghost use Rattle.model.specs.Common.{joined};
+ghost use Rattle.model.specs.Limits.{mostTicks, mostDelays};
+ghost use Rattle.model.specs.Batch.{delaysOf};
+ghost use Rattle.model.specs.Line.{digitsOf, two};
+ghost use Rattle.model.specs.Format.{masksOf, jobLine, jobsOf, delayLine, batchFile};
+ghost use Rattle.lines.specs.Write.{overwritten};
+ghost use Rattle.writing.specs.Bounded.{Bounded};
+use crate::frame::put_delay;
+use crate::frame::put_header;
+use crate::frame::put_pair;
+use crate::number::wide;
+use model::Batch;
+use model::Job;
+
+// The whole batch text at the buffer's front.
+pub fn put_batch(buffer: &mut [u8], batch: Batch) -> usize
+    requires { ⌜ Bounded batch ⌝ }
+    requires { ⌜ length (batchFile batch) ≤ length (now buffer) ⌝ }
+    ensures { λ r. ⌜ (r ≡ length (batchFile batch)) × (now (buffer .exit) ≡ overwritten (now (buffer .entry)) 0 (batchFile batch)) ⌝ }
+{
+    let jobs = put_header(buffer, 0, batch.n, batch.m);
+    let delays = put_jobs(buffer, jobs, batch);
+    put_delays(buffer, delays, batch)
+}
+
+// The number of its bytes: two digits a byte, and a 0A a line.
+pub fn batch_length(batch: Batch) -> usize
+    requires { ⌜ Bounded batch ⌝ }
+    ensures { λ r. ⌜ r ≡ length (batchFile batch) ⌝ }
+{
+    let n = wide(batch.n);
+    let m = wide(batch.m);
+    let mut size: usize = 9 + 11 * m;
+    let mut i: usize = 0;
+    while i < n {
+        let job = batch.jobs[i];
+        size = size + 4 * wide(job.ticks) + 5;
+        i = i + 1;
+    }
+    size
+}
+
+// The job lines.
+fn put_jobs(buffer: &mut [u8], at: usize, batch: Batch) -> usize
+    requires { ⌜ Bounded batch ⌝ }
+    requires { ⌜ at + length (joined jobLine (jobsOf batch)) ≤ length (now buffer) ⌝ }
+    ensures { λ r. ⌜ (r ≡ at + length (joined jobLine (jobsOf batch))) × (now (buffer .exit) ≡ overwritten (now (buffer .entry)) at (joined jobLine (jobsOf batch))) ⌝ }
+{
+    let n = wide(batch.n);
+    let mut next = at;
+    let mut i: usize = 0;
+    while i < n {
+        let job = batch.jobs[i];
+        next = put_job(buffer, next, job);
+        i = i + 1;
+    }
+    next
+}
+
+// One job line.
+fn put_job(buffer: &mut [u8], at: usize, job: Job) -> usize
+    requires { ⌜ (job .ticks ≤ mostTicks) × (at + (4 * job .ticks + 5) ≤ length (now buffer)) ⌝ }
+    ensures { λ r. ⌜ (r ≡ at + (4 * job .ticks + 5)) × (now (buffer .exit) ≡ overwritten (now (buffer .entry)) at (jobLine job)) ⌝ }
+{
+    let masks = put_pair(buffer, at, 0xA1, job.ticks);
+    let end = put_masks(buffer, masks, job);
+    lines::put_end(buffer, end)
+}
+
+// A job's p masks.
+fn put_masks(buffer: &mut [u8], at: usize, job: Job) -> usize
+    requires { ⌜ (job .ticks ≤ mostTicks) × (at + 4 * job .ticks ≤ length (now buffer)) ⌝ }
+    ensures { λ r. ⌜ (r ≡ at + 4 * job .ticks) × (now (buffer .exit) ≡ overwritten (now (buffer .entry)) at (digitsOf (joined two (masksOf job)))) ⌝ }
+{
+    let ticks = wide(job.ticks);
+    let mut next = at;
+    let mut a: usize = 0;
+    while a < ticks {
+        next = lines::put_two(buffer, next, job.masks[a]);
+        a = a + 1;
+    }
+    next
+}
+
+// The delay lines.
+fn put_delays(buffer: &mut [u8], at: usize, batch: Batch) -> usize
+    requires { ⌜ (batch .m ≤ mostDelays) × (at + 11 * batch .m ≤ length (now buffer)) ⌝ }
+    ensures { λ r. ⌜ (r ≡ at + 11 * batch .m) × (now (buffer .exit) ≡ overwritten (now (buffer .entry)) at (joined delayLine (delaysOf batch))) ⌝ }
+{
+    let m = wide(batch.m);
+    let mut next = at;
+    let mut k: usize = 0;
+    while k < m {
+        let delay = batch.delays[k];
+        next = put_delay(buffer, next, delay);
+        k = k + 1;
+    }
+    next
+}
