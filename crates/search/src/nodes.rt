@@ -14,15 +14,23 @@ pub struct Walked {
     pub tally: Tally,
 }
 
-// One node more.
-fn count_node(tally: Tally) -> Tally
+// One node more, in place.
+fn count_node(tally: &mut Tally)
+    requires { ⌜ (0 < now tally .left) × (now tally .total + now tally .left ≤ 100000000) ⌝ }
+    ensures { λ _. ⌜ now (tally .exit) ≡ counted (now (tally .entry)) ⌝ }
+{
+    tally.total = tally.total + 1;
+    tally.left = tally.left - 1;
+}
+
+// The same of a tally that is handed over and back.
+fn counted(tally: Tally) -> Tally
     requires { ⌜ (0 < tally .left) × (tally .total + tally .left ≤ 100000000) ⌝ }
     ensures { λ r. ⌜ r ≡ counted tally ⌝ }
 {
-    Tally {
-        total: tally.total + 1,
-        left: tally.left - 1,
-    }
+    let mut one = tally;
+    count_node(&mut one);
+    one
 }
 
 // The nodes that the tally allows, fewer if the search ends before.
@@ -47,7 +55,7 @@ pub fn visit_nodes(
         if walk.ended {
             return Walked { walk, tally };
         }
-        tally = count_node(tally);
+        tally = counted(tally);
         walk = visit(turns, walk, sizes, from, to, code, ticks, codes);
     }
     Walked { walk, tally }

@@ -10,7 +10,7 @@ use Rattle.search.proofs.nodes.visit_nodes.Tie as tie
 use Rattle.search.proofs.nodes.visit_nodes.Reads as reads
 use Rattle.search.proofs.nodes.visit_nodes.Lts as lts
 use Rattle.search.proofs.node.visit.Reads as visit-reads
-use Rattle.search.proofs.nodes.count_node.Reads as count-node-reads
+use Rattle.search.proofs.nodes.counted.Reads as counted-reads
 
 abbrev Inv-loop : tie.InvT-loop
 Inv-loop turns₀ sizes from to code ticks codes walk₀ tally₀ turns walk tally =
@@ -25,8 +25,8 @@ loop-holds c = (search needs, λ b w. (w, refl))
 returns : tie.Need-returns Inv-loop μ-loop
 returns c = let h = c .before .before .before in λ b w. stops _ _ _ _ _ _ _ _ _ _ _ _ (h .loop .inv) b w (c .if2 .taken)
 
-count-node-requires : tie.Need-count-node-requires Inv-loop μ-loop
-count-node-requires c κs = (c .before .if1 .taken, c .before .before .before .loop .inv .0)
+counted-requires : tie.Need-counted-requires Inv-loop μ-loop
+counted-requires c κs = (c .before .if1 .taken, c .before .before .before .loop .inv .0)
 
 visit-requires : tie.Need-visit-requires Inv-loop μ-loop
 visit-requires c κs =
@@ -36,13 +36,13 @@ visit-requires c κs =
 loop-less : tie.Need-loop-less Inv-loop μ-loop
 loop-less c =
     let n = c .before .before in
-    counted-less _ _ (n .count-node .ensures) (n .before .before .if1 .taken)
+    counted-less _ _ (n .counted .ensures) (n .before .before .if1 .taken)
 
 loop-again : tie.Need-loop-again Inv-loop μ-loop
 loop-again c =
     let n = c .before .before in
     let e = n .before in
-    goes-on _ _ _ _ _ _ _ _ _ _ _ _ (e .before .before .before .loop .inv) _ _ _ (e .before .if1 .taken) (e .if2 .left) (n .count-node .ensures) (c .visit .ensures)
+    goes-on _ _ _ _ _ _ _ _ _ _ _ _ (e .before .before .before .loop .inv) _ _ _ (e .before .if1 .taken) (e .if2 .left) (n .counted .ensures) (c .visit .ensures)
 
 returns-2 : tie.Need-returns-2 Inv-loop μ-loop
 returns-2 c = let h = c .before .before in λ b w. used-up _ _ _ _ _ _ _ _ _ _ _ _ (h .loop .inv) b w (c .if1 .left)
@@ -55,7 +55,7 @@ visit-nodes-spec =
     μ-loop
     loop-holds
     returns
-    count-node-requires
+    counted-requires
     visit-requires
     loop-less
     loop-again
