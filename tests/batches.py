@@ -1,0 +1,59 @@
+"""Random batches, and running a program. A batch is (jobs, delays): jobs are lists of masks."""
+import subprocess
+
+SECONDS = 60  # that a program may take for one file
+
+
+def output(program, data, seconds=SECONDS):
+    """What a program prints for this input; something else than any answer where it does not end."""
+    try:
+        return subprocess.run(program, input=data, capture_output=True, timeout=seconds).stdout
+    except subprocess.TimeoutExpired:
+        return b"no end in %d seconds" % seconds
+
+
+def batch(rng, n, most_ticks):
+    stations = rng.choice([1, 2, 4, 6, 8, 16])
+    padding = rng.choice([0, 0.2, 0.4, 0.6])
+    jobs = []
+    for _ in range(n):
+        masks = [0] * rng.randint(1, most_ticks)
+        for a in range(len(masks)):
+            if rng.random() >= padding:
+                for _ in range(rng.choice([1, 1, 2, 3])):
+                    masks[a] |= 1 << rng.randrange(stations)
+        jobs.append(masks)
+    delays = []
+    if n > 1:
+        # Starts that keep every delay, unless a delay asks for more than they give.
+        spread = rng.choice([2, 4, 4, 8, 1000])
+        kept = [rng.randint(0, spread) for _ in range(n)]
+        slacks = rng.choice([[0, 0, 1], [0, 1, 2], [2, 3, 4], [3, 5, 8], [0, 1, 8, 30]])
+        greed = rng.choice([0, 0, 0, 0.1, 0.3])
+        for _ in range(rng.choice([0, 1, n, n, 2 * n, 3 * n])):
+            i, j = rng.sample(range(n), 2)
+            ring = [(i, j), (j, i)] if rng.random() < 0.6 else [(i, j)]
+            for i, j in ring:
+                slack = -1 if rng.random() < greed else rng.choice(slacks)
+                delays.append((i, j, max(-1000, min(1000, kept[j] - kept[i] - slack))))
+    return jobs, delays[:128]
+
+
+def lines(jobs, delays):
+    """The lines of the batch file, without their 0A."""
+    head = "A001%02X%02X" % (len(jobs), len(delays))
+    tables = ["A1%02X" % len(masks) + "".join("%04X" % mask for mask in masks) for masks in jobs]
+    return [head] + tables + ["A2%02X%02X%04X" % (i, j, w & 0xFFFF) for i, j, w in delays]
+
+
+def joined(texts):
+    return "".join(text + "\n" for text in texts).encode()
+
+
+def apart(first, second):
+    """The differences t_j - t_i at which two jobs hold one station in one tick."""
+    return {a - b for a, x in enumerate(first) for b, y in enumerate(second) if x & y}
+
+
+def clash_count(jobs):
+    return sum(len(apart(jobs[i], jobs[j])) for j in range(len(jobs)) for i in range(j))

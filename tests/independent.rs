@@ -1,0 +1,444 @@
+// The planner of document 01 once more, written from its text alone, to compare with.
+// `independent plan` behaves as the program `plan`, `independent calls` as the check program.
+use std::io::{BufRead, Read, Write};
+
+const EMPTY: (u64, u64) = (65535, 0);
+
+/// A delay or a turn's inequality: t_j - t_i >= w.
+type Inequality = (usize, usize, i64);
+
+#[derive(Clone)]
+struct Record {
+    n: usize,
+    m: usize,
+    ticks: [usize; 24],
+    masks: [[u64; 16]; 24],
+    delays: [Inequality; 128],
+    path: [(u64, u64); 1024],
+    best: Option<u64>,
+    starts: [u64; 24],
+    total: u64,
+    ended: bool,
+}
+
+enum Answer {
+    Spent(u64),
+    Plan(u64, u64),
+    NoPlan(u64),
+    Refused(u64),
+}
+
+fn blank() -> Record {
+    Record {
+        n: 0,
+        m: 0,
+        ticks: [0; 24],
+        masks: [[0; 16]; 24],
+        delays: [(0, 0, 0); 128],
+        path: [EMPTY; 1024],
+        best: None,
+        starts: [0; 24],
+        total: 0,
+        ended: false,
+    }
+}
+
+// ---- opening
+
+fn digit(byte: u8) -> Option<u8> {
+    match byte {
+        b'0'..=b'9' => Some(byte - b'0'),
+        b'A'..=b'F' => Some(byte - b'A' + 10),
+        _ => None,
+    }
+}
+
+fn hex(text: &[u8]) -> Option<Vec<u8>> {
+    if text.len() % 2 == 1 {
+        return None;
+    }
+    text.chunks(2).map(|pair| Some(digit(pair[0])? * 16 + digit(pair[1])?)).collect()
+}
+
+/// Takes the next line off the file: its bytes, or 7 or 1.
+fn next_line(file: &mut &[u8]) -> Result<Vec<u8>, u64> {
+    if file.is_empty() {
+        return Err(7);
+    }
+    let end = file.iter().position(|byte| *byte == 0x0A).ok_or(1u64)?;
+    let text = &file[..end];
+    *file = &file[end + 1..];
+    if text.is_empty() {
+        return Err(1);
+    }
+    hex(text).ok_or(1)
+}
+
+fn refuse(number: u64, when: bool) -> Result<(), u64> {
+    if when { Err(number) } else { Ok(()) }
+}
+
+fn open(mut file: &[u8]) -> Result<Record, u64> {
+    let mut r = blank();
+    let head = next_line(&mut file)?;
+    refuse(2, head[0] != 0xA0 || head.len() != 4)?;
+    refuse(3, head[1] != 1)?;
+    r.n = head[2] as usize;
+    r.m = head[3] as usize;
+    refuse(4, r.n < 1 || r.n > 24 || r.m > 128)?;
+    for job in 0..r.n {
+        let line = next_line(&mut file)?;
+        refuse(2, line[0] != 0xA1 || line.len() < 2 || line.len() != 2 + 2 * line[1] as usize)?;
+        refuse(4, line[1] < 1 || line[1] > 16)?;
+        r.ticks[job] = line[1] as usize;
+        for tick in 0..r.ticks[job] {
+            r.masks[job][tick] = line[2 + 2 * tick] as u64 * 256 + line[3 + 2 * tick] as u64;
+        }
+    }
+    for delay in 0..r.m {
+        let line = next_line(&mut file)?;
+        refuse(2, line[0] != 0xA2 || line.len() != 5)?;
+        let (i, j) = (line[1] as usize, line[2] as usize);
+        refuse(5, i >= r.n || j >= r.n || i == j)?;
+        let w = i16::from_be_bytes([line[3], line[4]]) as i64;
+        refuse(6, w < -1000 || w > 1000)?;
+        r.delays[delay] = (i, j, w);
+    }
+    refuse(8, !file.is_empty())?;
+    refuse(9, clashes(&r).len() > 1024)?;
+    refuse(10, least_starts(r.n, &r.delays[..r.m]).is_none())?;
+    Ok(r)
+}
+
+// ---- clashes, least starts, soundness
+
+fn clashes(r: &Record) -> Vec<Inequality> {
+    let mut list = Vec::new();
+    for i in 0..r.n {
+        for j in i + 1..r.n {
+            for d in -15i64..=15 {
+                let shared = (0..r.ticks[i]).any(|a| {
+                    let b = a as i64 - d;
+                    b >= 0 && b < r.ticks[j] as i64 && r.masks[i][a] & r.masks[j][b as usize] != 0
+                });
+                if shared {
+                    list.push((i, j, d));
+                }
+            }
+        }
+    }
+    list
+}
+
+fn least_starts(n: usize, inequalities: &[Inequality]) -> Option<Vec<i64>> {
+    let mut starts = vec![0i64; n];
+    for round in 1..=n {
+        let mut new = starts.clone();
+        for &(i, j, w) in inequalities {
+            new[j] = new[j].max(starts[i] + w);
+        }
+        if new == starts {
+            break; // later rounds change nothing either
+        }
+        if round == n {
+            return None;
+        }
+        starts = new;
+    }
+    Some(starts)
+}
+
+/// The clashes of the record's batch if the record is sound.
+fn sound(r: &Record) -> Option<Vec<Inequality>> {
+    if r.n < 1 || r.n > 24 || r.m > 128 {
+        return None;
+    }
+    if r.ticks[..r.n].iter().any(|p| *p < 1 || *p > 16) {
+        return None;
+    }
+    for &(i, j, w) in &r.delays[..r.m] {
+        if i >= r.n || j >= r.n || i == j || w < -1000 || w > 1000 {
+            return None;
+        }
+    }
+    let list = clashes(r);
+    if list.len() > 1024 || least_starts(r.n, &r.delays[..r.m]).is_none() {
+        return None;
+    }
+    let turns = turns(r);
+    if r.path[turns..].iter().any(|place| *place != EMPTY) || (r.ended && turns > 0) {
+        return None;
+    }
+    for (k, &(clash, side)) in r.path[..turns].iter().enumerate() {
+        let again = r.path[..k].iter().any(|earlier| earlier.0 == clash);
+        if clash >= list.len() as u64 || side > 1 || again {
+            return None;
+        }
+    }
+    if r.total > 100_000_000 {
+        return None;
+    }
+    if let Some(latency) = r.best {
+        if latency > 23_016 || r.starts[..r.n].iter().any(|start| *start > 23_000) {
+            return None;
+        }
+    }
+    Some(list)
+}
+
+/// The number of places before the first empty one.
+fn turns(r: &Record) -> usize {
+    r.path.iter().position(|place| *place == EMPTY).unwrap_or(1024)
+}
+
+// ---- the search
+
+fn go_back(r: &mut Record) {
+    let mut length = turns(r);
+    while length > 0 && r.path[length - 1].1 == 1 {
+        length -= 1;
+        r.path[length] = EMPTY;
+    }
+    if length == 0 {
+        r.ended = true;
+    } else {
+        r.path[length - 1].1 = 1;
+    }
+}
+
+fn node(r: &mut Record, list: &[Inequality]) {
+    r.total += 1;
+    let length = turns(r);
+    let mut inequalities = r.delays[..r.m].to_vec();
+    for &(clash, side) in &r.path[..length] {
+        let (i, j, d) = list[clash as usize];
+        inequalities.push(if side == 0 { (i, j, d + 1) } else { (j, i, 1 - d) });
+    }
+    let Some(t) = least_starts(r.n, &inequalities) else {
+        return go_back(r);
+    };
+    let latency = (0..r.n).map(|i| t[i] as u64 + r.ticks[i] as u64).max().unwrap();
+    if r.best.is_some_and(|best| latency >= best) {
+        return go_back(r);
+    }
+    if let Some(first) = list.iter().position(|&(i, j, d)| t[j] - t[i] == d) {
+        r.path[length] = (first as u64, 0);
+        return;
+    }
+    r.best = Some(latency);
+    r.starts = [0; 24];
+    for i in 0..r.n {
+        r.starts[i] = t[i] as u64;
+    }
+    go_back(r);
+}
+
+fn run(r: &mut Record, budget: u64, list: &mut [u64]) -> Answer {
+    if budget > 1_000_000 {
+        return Answer::Refused(11);
+    }
+    let Some(clashes) = sound(r) else {
+        return Answer::Refused(12);
+    };
+    if list.len() < r.n {
+        return Answer::Refused(13);
+    }
+    if !r.ended && r.total + budget > 100_000_000 {
+        return Answer::Refused(14);
+    }
+    let mut allowed = budget;
+    while !r.ended && allowed > 0 {
+        node(r, &clashes);
+        allowed -= 1;
+    }
+    match (r.ended, r.best) {
+        (false, _) => Answer::Spent(r.total),
+        (true, None) => Answer::NoPlan(r.total),
+        (true, Some(latency)) => {
+            list[..r.n].copy_from_slice(&r.starts[..r.n]);
+            Answer::Plan(latency, r.total)
+        }
+    }
+}
+
+// ---- writing
+
+fn plan_text(r: &Record) -> Result<String, u64> {
+    refuse(12, sound(r).is_none())?;
+    refuse(15, !r.ended)?;
+    let Some(latency) = r.best else {
+        return Ok(format!("B2{:08X}\n", r.total));
+    };
+    let mut text = format!("B001{:02X}{:04X}{:08X}\n", r.n, latency, r.total);
+    for i in 0..r.n {
+        text += &format!("B1{:02X}{:04X}\n", i, r.starts[i]);
+    }
+    Ok(text)
+}
+
+fn batch_text(r: &Record) -> Result<String, u64> {
+    refuse(12, sound(r).is_none())?;
+    let mut text = format!("A001{:02X}{:02X}\n", r.n, r.m);
+    for i in 0..r.n {
+        text += &format!("A1{:02X}", r.ticks[i]);
+        for mask in &r.masks[i][..r.ticks[i]] {
+            text += &format!("{:04X}", mask);
+        }
+        text += "\n";
+    }
+    for &(i, j, w) in &r.delays[..r.m] {
+        text += &format!("A2{:02X}{:02X}{:04X}\n", i, j, w as i16 as u16);
+    }
+    Ok(text)
+}
+
+// ---- the program `plan`
+
+fn plan(file: &[u8]) -> String {
+    let answer = || -> Result<String, u64> {
+        let mut r = open(&file[..file.len().min(65_536)])?;
+        let mut list = [0; 24];
+        loop {
+            match run(&mut r, 1_000_000, &mut list) {
+                Answer::Spent(_) => (),
+                Answer::Refused(number) => return Err(number),
+                _ => return plan_text(&r),
+            }
+        }
+    };
+    answer().unwrap_or_else(|number| format!("BF{:02X}\n", number))
+}
+
+// ---- the check program
+
+fn shown(r: &Record) -> String {
+    let mut numbers = vec![r.n as u64, r.m as u64];
+    for i in 0..24 {
+        numbers.push(r.ticks[i] as u64);
+        numbers.extend(r.masks[i]);
+    }
+    for (i, j, w) in r.delays {
+        numbers.extend([i as u64, j as u64, (w + 32768) as u64]);
+    }
+    for (clash, side) in r.path {
+        numbers.extend([clash, side]);
+    }
+    numbers.push(r.best.map_or(0, |latency| latency + 1));
+    numbers.extend(r.starts);
+    numbers.extend([r.total, r.ended as u64]);
+    let sum = numbers.iter().fold(7u64, |x, v| (x * 31 + v) % 4_294_967_296);
+    let best = r.best.map_or("-".to_string(), |latency| latency.to_string());
+    let mut text = format!("D {} {} {} {} {} :", r.n, r.m, r.total, r.ended as u64, best);
+    r.starts.iter().for_each(|start| text += &format!(" {}", start));
+    text += " :";
+    r.path[..turns(r)].iter().for_each(|(clash, side)| text += &format!(" {}.{}", clash, side));
+    text + &format!(" : {}", sum)
+}
+
+/// Sets one place; false where an argument is out of range.
+fn set(r: &mut Record, field: u64, a: usize, b: usize, value: u64) -> bool {
+    let most = match field {
+        0 | 1 | 2 | 4 | 5 | 8 => 255,
+        3 | 6 | 7 | 10 => 65_535,
+        9 => 65_536,
+        11 => 4_294_967_295,
+        12 => 1,
+        _ => return false,
+    };
+    let places = match field {
+        2 | 3 | 10 => 24,
+        4 | 5 | 6 => 128,
+        7 | 8 => 1024,
+        _ => usize::MAX,
+    };
+    if value > most || a >= places || (field == 3 && b >= 16) {
+        return false;
+    }
+    match field {
+        0 => r.n = value as usize,
+        1 => r.m = value as usize,
+        2 => r.ticks[a] = value as usize,
+        3 => r.masks[a][b] = value,
+        4 => r.delays[a].0 = value as usize,
+        5 => r.delays[a].1 = value as usize,
+        6 => r.delays[a].2 = value as i64 - 32_768,
+        7 => r.path[a].0 = value,
+        8 => r.path[a].1 = value,
+        9 => r.best = if value == 65_536 { None } else { Some(value) },
+        10 => r.starts[a] = value,
+        11 => r.total = value,
+        _ => r.ended = value == 1,
+    }
+    true
+}
+
+fn written(letter: &str, text: Result<String, u64>, length: usize) -> String {
+    let mut buffer = vec![b'.'; length];
+    let fitting = text.and_then(|text| if text.len() > length { Err(16) } else { Ok(text) });
+    let answer = match fitting {
+        Ok(text) => {
+            buffer[..text.len()].copy_from_slice(text.as_bytes());
+            format!("W {}", text.len())
+        }
+        Err(number) => format!("F {}", number),
+    };
+    let buffer = String::from_utf8(buffer).unwrap().replace('\n', "/");
+    format!("{} {} : {}", letter, answer, buffer)
+}
+
+fn number(word: &str) -> Option<u64> {
+    let digits = !word.is_empty() && word.bytes().all(|byte| byte.is_ascii_digit());
+    word.parse().ok().filter(|value| digits && *value <= 4_294_967_295)
+}
+
+fn call(r: &mut Record, line: &str) -> Option<String> {
+    let words: Vec<&str> = line.split(' ').collect();
+    if words[0] == "O" && words.len() <= 2 {
+        let file = hex(words.get(1).unwrap_or(&"").as_bytes())?;
+        let opened = open(&file);
+        let answer = opened.as_ref().err().copied().unwrap_or(0);
+        *r = opened.unwrap_or_else(|_| blank());
+        return Some(format!("O {}", answer));
+    }
+    let numbers: Vec<u64> = words[1..].iter().map(|word| number(word)).collect::<Option<_>>()?;
+    match (words[0], &numbers[..]) {
+        ("R", &[budget, length]) if length <= 32 => {
+            let mut list: Vec<u64> = (0..length).map(|i| 60_000 + i).collect();
+            let mut text = match run(r, budget, &mut list) {
+                Answer::Spent(total) => format!("R S {} :", total),
+                Answer::Plan(latency, total) => format!("R P {} {} :", latency, total),
+                Answer::NoPlan(total) => format!("R N {} :", total),
+                Answer::Refused(number) => format!("R F {} :", number),
+            };
+            list.iter().for_each(|place| text += &format!(" {}", place));
+            Some(text)
+        }
+        ("P", &[length]) if length <= 4096 => Some(written("P", plan_text(r), length as usize)),
+        ("B", &[length]) if length <= 4096 => Some(written("B", batch_text(r), length as usize)),
+        ("S", &[field, a, b, value]) => {
+            let done = set(r, field, a as usize, b as usize, value);
+            Some(if done { "S" } else { "S ?" }.to_string())
+        }
+        ("D", &[]) => Some(shown(r)),
+        _ => None,
+    }
+}
+
+fn main() {
+    let mode = std::env::args().nth(1).unwrap_or_default();
+    let mut out = std::io::BufWriter::new(std::io::stdout());
+    if mode == "plan" {
+        let mut file = Vec::new();
+        std::io::stdin().read_to_end(&mut file).unwrap();
+        out.write_all(plan(&file).as_bytes()).unwrap();
+    } else if mode == "calls" {
+        let mut record = blank();
+        for line in std::io::stdin().lock().lines() {
+            let answer = call(&mut record, &line.unwrap()).unwrap_or("?".to_string());
+            writeln!(out, "{}", answer).unwrap();
+        }
+    } else {
+        eprintln!("usage: independent plan | calls");
+        std::process::exit(2);
+    }
+}

@@ -1,0 +1,138 @@
+"""The lists of calls that are compared. Each begins with an opening."""
+from batches import joined, lines
+from files import test_batch
+
+NONE = 65536  # best's value for none
+EMPTY = 65535
+TEXTS = ["P 240", "B 3080", "D"]  # long enough for every plan and batch
+
+
+def opening(data):
+    return ("O " + data.hex().upper()).strip()
+
+
+def turn(place, clash, side):
+    return ["S 7 %d 0 %d" % (place, clash), "S 8 %d 0 %d" % (place, side)]
+
+
+def states(batch):
+    """Calls that lead to a fresh, an unfinished and an ended search."""
+    first = [opening(batch.data)]
+    return [first, first + ["R %d 24" % (batch.total // 2)], first + ["R %d 24" % batch.total]]
+
+
+def runs(rng, batch):
+    first, n, total = opening(batch.data), batch.n, batch.total
+    for budgets in ([total], [total - 1, 0, 1], [total - 1, 2], [total + 1], [0, total, 0], [1000000, 1000000, 0]):
+        calls = [call for b in budgets for call in ("R %d %d" % (b, rng.choice([n, n + 1, 24, 32])), "D")]
+        yield "budgets at N", [first] + calls + TEXTS
+    for _ in range(3):
+        calls = []
+        for _ in range(rng.randint(2, 9)):
+            budget = rng.choice([0, 1, 2, rng.randint(0, total), total // 3, total, 1000000, 1000001, 4294967295])
+            calls.append("R %d %d" % (budget, rng.choice([n, n, n + 1, 32, n - 1, 0])))
+            calls.append(rng.choice(["D", "P 240", "B 3080", "P 3"]))
+        yield "refused calls between", [first] + calls + ["D"]
+
+
+def lengths(batch):
+    """Starts lists and buffers of every telling length, on sound and unsound records."""
+    for state in states(batch):
+        for length in range(batch.n + 2):
+            yield "starts lists", state + ["R %d %d" % (b, length) for b in (0, 1, 1000001)] + ["D"]
+        for unsound in ([], ["S 11 0 0 100000001"]):
+            due = 19 + 9 * batch.n if batch.plan else 11
+            for length in (0, 1, 10, 11, 12, due - 1, due, due + 1, 4096):
+                yield "plan text buffers", state + unsound + ["P %d" % length, "D"]
+            due = len(batch.data)
+            for length in (0, 1, due - 1, due, due + 1, 4096):
+                yield "batch text buffers", state + unsound + ["B %d" % length, "D"]
+
+
+def edits(n, m, clashes):
+    """Changes of a record that break one condition of soundness, or just do not."""
+    def one(field, a, value, b=0):
+        return "S %d %d %d %d" % (field, a, b, value)
+
+    for value in (0, n - 1, n + 1, 24, 25, 255):
+        yield [one(0, 0, value)]
+    for value in (0, m - 1, m + 1, 128, 129, 255):
+        yield [one(1, 0, value)]
+    for job in (0, n - 1, n, 23):
+        for value in (0, 1, 16, 17, 255):
+            yield [one(2, job, value)]
+        for tick in (0, 15):
+            for value in (0, 65535):
+                yield [one(3, job, value, tick)]
+    for delay in (0, m - 1, m, 127):
+        for value in (0, n - 1, n, 24, 255):
+            yield [one(4, delay, value)]
+            yield [one(5, delay, value)]
+        yield [one(4, delay, 1), one(5, delay, 1)]
+        for value in (1000, 1001, -1000, -1001, 32767, -32768):
+            yield [one(6, delay, 32768 + value)]
+    for value in (0, 1):  # a ring of sum 0, and of sum 1
+        yield [one(4, 0, 0), one(5, 0, 1), one(6, 0, 32768 + value), one(4, 1, 1), one(5, 1, 0), one(6, 1, 32768)]
+    fresh = [one(12, 0, 0)] + [call for place in range(12) for call in turn(place, EMPTY, 0)]
+    for side in (0, 1, 2, 255):
+        for clash in (0, clashes - 1, clashes, 1023, 1024, EMPTY - 1, EMPTY):
+            yield fresh + turn(0, clash, side)
+        yield fresh + turn(0, 0, 0) + turn(1, 0, side)  # one clash twice
+        yield fresh + turn(0, 0, side) + turn(1, 1, 1)
+        yield fresh + turn(1, 0, side)  # after an empty place
+        yield fresh + turn(0, 0, 0) + turn(2, 1, side)
+        yield turn(1023, 0, side)
+        yield turn(1023, EMPTY, side)
+        yield fresh + turn(0, 0, side) + [one(12, 0, 1)]  # a turn while ended
+        yield fresh + [one(12, 0, 1)]
+    for best in (0, 1, 23015, 23016, 23017, 65535, NONE):
+        for ended in (0, 1):
+            yield [one(9, 0, best), one(12, 0, ended)]
+    for best in (40, 23016, NONE):
+        for job in (0, n - 1, n, 23):
+            for start in (22999, 23000, 23001, 60000, 65535):
+                yield [one(9, 0, best), one(10, job, start)]
+    for total in (0, 99000000, 99000001, 99999996, 99999997, 99999998, 99999999, 100000000, 100000001, 4294967295):
+        yield [one(11, 0, total)]
+
+
+def soundness(batch):
+    after = ["D", "R 3 24", "D", "P 240", "B 3080", "R 1000001 0", "R 1 0", "R 1000000 25", "D", "P 240"]
+    for state in states(batch):
+        for edit in edits(batch.n, batch.m, batch.clashes):
+            yield "soundness", state + edit + after
+
+
+def foreign(rng, batch):
+    """Sound records that no search here reached, with something in every place that does not count."""
+    for _ in range(3):
+        calls = [opening(batch.data)]
+        for place, clash in enumerate(rng.sample(range(batch.clashes), rng.randint(0, min(batch.clashes, 6)))):
+            calls += turn(place, clash, rng.randint(0, 1))
+        calls.append("S 9 0 0 %d" % rng.choice([NONE, NONE, 0, rng.randint(1, 30), 23016]))
+        calls.append("S 10 0 0 %d" % rng.randint(0, 23000))
+        calls += ["S 10 23 0 60000", "S 2 23 0 255", "S 3 23 3 77", "S 6 127 0 0", "S 4 127 0 255"]
+        calls.append("S 11 0 0 %d" % rng.choice([0, 5, 99999990, 99999999, 100000000]))
+        yield "foreign records", calls + ["D", "R 1 24", "R 0 24", "R 2 24", "D", "R 30 25", "D", "R 2000 24", "D", "P 240"]
+
+
+def large():
+    """A path with no empty place, and a batch that gets one clash too many."""
+    first = [opening(joined(lines(test_batch(13), [])))]
+    for zero in (0, 1000):
+        path = [call for place in range(1024) for call in turn(place, 1023 - place, 0 if place == zero else 1)]
+        yield "full path", first + path + ["D", "R 1 24", "D", "R 20 11", "D", "S 8 0 0 2", "R 1 24"]
+    yield "clash limit", first + ["R 50 24", "D", "S 2 10 0 14", "R 1 24", "S 3 10 13 2", "R 1 24"] + TEXTS
+
+
+def all_lists(rng, known):
+    """Every list as (kind, calls), from batches whose N is known."""
+    made = [one for batch in known for one in runs(rng, batch)]
+    deep = [batch for batch in known if batch.total >= 5]
+    for batch in deep[:25] + [batch for batch in known if not batch.plan][:8] + known[-3:]:
+        made += lengths(batch)
+    for batch in [batch for batch in deep if batch.m >= 2][:6]:
+        made += soundness(batch)
+    for batch in known:
+        made += foreign(rng, batch)
+    return made + list(large())

@@ -1,0 +1,121 @@
+"""Random batches through PLAN; every answer is checked from the batch file alone and asked of z3.
+
+usage: solver.py PLAN COUNTS     COUNTS gets the numbers of right and wrong cases"""
+import random
+import re
+import sys
+from collections import Counter
+
+from batches import apart, batch, clash_count, joined, lines, output
+
+BATCHES = 420
+MOST_CLASHES = 40
+
+
+def read_file(data):
+    """Jobs and delays of a batch file, read here once more from its bytes."""
+    frames = [bytes.fromhex(line) for line in data.decode().splitlines()]
+    n = frames[0][2]
+    jobs = [[int.from_bytes(f[k:k + 2], "big") for k in range(2, len(f), 2)] for f in frames[1:1 + n]]
+    delays = [(f[1], f[2], int.from_bytes(f[3:5], "big", signed=True)) for f in frames[1 + n:]]
+    return jobs, delays
+
+
+def faults(jobs, delays, starts, latency):
+    """What is wrong with a plan: delays, stations tick by tick, latency."""
+    found = ["delay %d %d %d" % d for d in delays if starts[d[1]] - starts[d[0]] < d[2]]
+    held = Counter((starts[i] + a, s) for i, masks in enumerate(jobs)
+                   for a, mask in enumerate(masks) for s in range(16) if mask >> s & 1)
+    found += ["tick %d station %d" % key for key, times in held.items() if times > 1]
+    if latency != max(start + len(masks) for start, masks in zip(starts, jobs)):
+        found.append("latency")
+    return found
+
+
+def read_answer(text, n):
+    """(kind, starts, latency, total) of PLAN's output; kind is wrong if it keeps no form of 01."""
+    if not re.fullmatch("(([0-9A-F]{2})+\n)+", text):
+        return "wrong", None, None, 0
+    frames = [bytes.fromhex(line) for line in text.splitlines()]
+    kinds = [frame[0] for frame in frames]
+    if kinds == [0xBF] and len(frames[0]) == 2 and frames[0][1] in (10, 14):
+        return {10: "refused by 10", 14: "skipped (BF0E)"}[frames[0][1]], None, None, 1
+    if kinds == [0xB2] and len(frames[0]) == 5:
+        return "no plan", None, None, int.from_bytes(frames[0][1:], "big")
+    if kinds == [0xB0] + [0xB1] * n and len(frames[0]) == 9 and frames[0][1:3] == bytes([1, n]) \
+            and all(len(f) == 4 and f[1] == k for k, f in enumerate(frames[1:])):
+        starts = [int.from_bytes(f[2:], "big") for f in frames[1:]]
+        return "plan", starts, int.from_bytes(frames[0][3:5], "big"), int.from_bytes(frames[0][5:], "big")
+    return "wrong", None, None, 0
+
+
+def question(jobs, delays, stations, latency):
+    """Asks for starts that meet the delays, with or without stations, up to a latency or none."""
+    n = len(jobs)
+    says = ["(>= (- t%d z) 0)" % i for i in range(n)]
+    says += ["(>= (- t%d t%d) (- %d))" % (j, i, -w) if w < 0 else "(>= (- t%d t%d) %d)" % (j, i, w)
+             for i, j, w in delays]
+    if stations:
+        says += ["(not (= (- t%d t%d) %s))" % (j, i, d if d >= 0 else "(- %d)" % -d)
+                 for j in range(n) for i in range(j) for d in sorted(apart(jobs[i], jobs[j]))]
+    if latency is not None:
+        says += ["false" if latency < len(masks) else "(<= (- t%d z) %d)" % (i, latency - len(masks))
+                 for i, masks in enumerate(jobs)]
+    names = ["z"] + ["t%d" % i for i in range(n)]
+    return "\n".join(["(reset)", "(set-logic QF_IDL)"] + ["(declare-const %s Int)" % x for x in names]
+                     + ["(assert %s)" % s for s in says] + ["(check-sat)"])
+
+
+def main():
+    plan, counts = sys.argv[1:3]
+    rng = random.Random(20240)
+    cases, questions = [], []
+    for number in range(BATCHES):
+        n = 1 + number % 12
+        made = batch(rng, n, rng.choice([2, 4, 6, 16]))
+        while not (n > 3) * n <= clash_count(made[0]) <= MOST_CLASHES:
+            made = batch(rng, n, rng.choice([2, 4, 6, 16]))
+        data = joined(lines(*made))
+        jobs, delays = read_file(data)
+        out = output([plan], data).decode("latin-1")
+        kind, starts, latency, total = read_answer(out, len(jobs))
+        found = ["form"] if kind == "wrong" else []
+        if not 1 <= total < 2 ** (clash_count(jobs) + 1):
+            found.append("total")
+        asked = []  # questions to z3 with the answers that are due
+        if kind == "plan":
+            found += faults(jobs, delays, starts, latency)
+            asked = [(True, latency - 1, "unsat"), (True, latency, "sat")]
+        elif kind == "no plan":
+            asked = [(True, None, "unsat"), (False, None, "sat")]
+        elif kind == "refused by 10":
+            asked = [(False, None, "unsat")]
+        questions += [question(jobs, delays, stations, most) for stations, most, _ in asked]
+        cases.append((kind, data, out, found, [due for _, _, due in asked]))
+    answers = output(["z3", "-in"], "\n".join(questions).encode(), 600).decode().split()
+    right, wrong, kinds = 0, 0, Counter()
+    if len(answers) != len(questions):
+        print("  z3 gave %d answers to %d questions" % (len(answers), len(questions)))
+        wrong += 1
+    place = 0
+    for kind, data, out, found, due in cases:
+        kinds[kind] += 1
+        given = answers[place:place + len(due)]
+        place += len(due)
+        if given != due:
+            found.append("z3 says %s where %s is due" % (given, due))
+        if kind == "skipped (BF0E)":
+            continue
+        right, wrong = right + (not found), wrong + bool(found)
+        if found and wrong <= 5:
+            print("  wrong: %s on %s: %s" % (found, data.decode().split(), out.split()))
+    print("  batches: " + ", ".join("%d %s" % (kinds[k], k) for k in sorted(kinds)))
+    print("  z3: %d questions, %d unsat, %d sat" % (len(questions), answers.count("unsat"), answers.count("sat")))
+    if right + wrong < 300 or not all(kinds[k] for k in ("plan", "no plan", "refused by 10")):
+        print("  wrong: too few batches compared, or a kind is missing")
+        wrong += 1
+    with open(counts, "w") as file:
+        file.write("%d %d\n" % (right, wrong))
+
+
+main()
