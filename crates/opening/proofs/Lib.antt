@@ -14,5 +14,5 @@ pub mod Places
 pub mod Rest
 pub mod BodyLaws
 pub mod FileLaws
-pub mod MetLaws
+pub mod WithinLaws
 pub mod OpenLaws

@@ -1,17 +1,14 @@
--- Two's complement, as the machine takes it down by 65,536, and the limits of a weight. All by the ranges of the two-byte number.
+-- Two's complement, as the machine takes it down by 65,536. All by the ranges of the two-byte number.
 use Prim.Native.Nat.{ℕ, suc, _-_, _≤_, _<_}
 use mathlib.Core.Path.{_≡_, ap, _∙_}
-use mathlib.Core.Bool.{true, false}
 use native.Mathlib.Omega.{arith}
 use borrow.Author.Tests.{lt-ltb, le-ltb}
 use lib.IntN.{ℤ, pos, negsuc, _-ℤ_}
-use lib.Signed.{leZ}
 use mir.Syntax.{w16, w32}
 use mir.Val.{SFits, toZ, ofZ}
 use mir.ValLaws.{toZ-ofZ, toZ-pos}
-use Rattle.model.specs.declared.Delay.{Delay}
 use Rattle.model.specs.Common.{if_then_else_}
-use Rattle.model.specs.Open.{signed, weightOk}
+use Rattle.model.specs.Open.{signed}
 
 -- the lower half of the numbers stands for itself
 pub signed-low : (v : ℕ) → v < 32768 → toZ w16 v ≡ signed v
@@ -48,13 +45,3 @@ module _ (v : ℕ) (high : 32768 ≤ v) (wide : v < 65536) where
   unfolding signed if_then_else_
   signed-high =
       ap (λ (z : ℤ). toZ w16 (ofZ w16 z)) down-is ∙ toZ-ofZ w16 (negsuc (65535 - v)) small ∙ rw (le-ltb v 32768 high)
-
--- a weight's limits, by the machine's tests: the lower one is kept
-pub weight-yes : (z : ℤ) (q : Delay) → z ≡ q .weight → leZ (negsuc 999) z ≡ true → leZ z (pos 1000) ≡ weightOk q
-unfolding weightOk
-weight-yes z q e t = rw (← e, t)
-
--- or not
-pub weight-no : (z : ℤ) (q : Delay) → z ≡ q .weight → leZ (negsuc 999) z ≡ false → leZ (negsuc 999) z ≡ weightOk q
-unfolding weightOk
-weight-no z q e t = rw (← e, t)

@@ -1,7 +1,7 @@
 // The header's frame: A0, edition 01, n and m.
 use crate::frame::frame_byte;
 use crate::frame::frame_is;
-use crate::limits::counts_ok;
+use limits::counts_ok;
 ghost use mathlib.Core.Path.{_≡_};
 ghost use Rattle.model.specs.Open.{header};
 ghost use Rattle.opening.specs.Frame.{frameAt, headerTold, Inside};

@@ -3,7 +3,7 @@ use crate::frame::frame_byte;
 use crate::frame::frame_is;
 use crate::frame::frame_wide;
 use crate::frame::wide;
-use crate::limits::ticks_ok;
+use limits::ticks_ok;
 use model::Job;
 use model::Opening;
 ghost use mathlib.Core.Path.{_≡_};

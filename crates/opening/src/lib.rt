@@ -2,12 +2,11 @@
 mod batch;
 mod delay;
 mod delays;
+mod few;
 mod frame;
 mod header;
 mod job;
 mod jobs;
-mod limits;
-mod met;
 mod open;
 
 pub use open::open_file;

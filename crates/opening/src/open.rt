@@ -1,11 +1,11 @@
 // Opening a batch file: the fresh search of its batch, or the first refusal.
 use crate::batch::blank_batch;
 use crate::batch::read_batch;
-use crate::met::delays_met;
-use crate::met::few_clashes;
+use crate::few::few_clashes;
 use model::Opened;
 use model::Opening;
 use model::fresh;
+use starts::met::delays_met;
 ghost use mathlib.Core.Path.{_≡_};
 ghost use Rattle.model.specs.Common.{refuse};
 ghost use Rattle.model.specs.Open.{opened, openedAs};

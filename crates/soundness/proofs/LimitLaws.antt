@@ -1,37 +1,17 @@
--- The limits of a batch, as the loops over its jobs and delays and the leaf for a weight test them.
+-- The limits of a batch, as the loops over its jobs and delays test them.
 use Prim.Native.Nat.{ℕ, _≤_}
 use mathlib.Core.Path.{_≡_, ap, sym, _∙_}
 use mathlib.Core.Bool.{Bool, true, false, _&&_}
 use mathlib.Core.List.{[]}
 use lib.ListN.{getD}
-use lib.IntN.{ℤ, pos, negsuc}
-use lib.Signed.{leZ}
-use mir.Syntax.{w16}
-use mir.Val.{SFits, toZ, ofZ}
-use mir.ValLaws.{toZ-ofZ}
 use Rattle.model.specs.declared.Batch.{Batch}
-use Rattle.model.specs.declared.Delay.{Delay}
-use Rattle.model.specs.Common.{between, count}
+use Rattle.model.specs.Common.{count}
 use Rattle.model.specs.Batch.{ticks, delayOf, delaysOf}
 use Rattle.model.specs.Open.{countsOk, ticksOk, jobsOk, weightOk}
 use Rattle.model.proofs.LimitLaws.{counts-iff}
 use Rattle.starts.proofs.DelaysLaws.{ticks-told}
-use Rattle.soundness.specs.Limits.{weightIn, ticksPass, delaysPass, limitsPass}
+use Rattle.soundness.specs.Limits.{ticksPass, delaysPass, limitsPass}
 use Rattle.soundness.proofs.AllLaws.{allFrom, all-start, all-both}
-
--- ---- a weight, read back from its sixteen bits as v
-
-pub in-yes : (v w : ℤ) → v ≡ w → leZ (negsuc 999) v ≡ true → leZ v (pos 1000) ≡ weightIn w
-unfolding weightIn
-in-yes v w e t = rw (← e, t)
-
-pub in-no : (v w : ℤ) → v ≡ w → leZ (negsuc 999) v ≡ false → leZ (negsuc 999) v ≡ weightIn w
-unfolding weightIn
-in-no v w e t = rw (← e, t)
-
-pub weight-told : (q : Delay) (x : Bool) → SFits w16 (q .weight) → x ≡ weightIn (toZ w16 (ofZ w16 (q .weight))) → x ≡ weightOk q
-unfolding weightOk weightIn
-weight-told q x fits e = e ∙ ap weightIn (toZ-ofZ w16 (q .weight) fits)
 
 -- ---- ticks
 
@@ -44,9 +24,9 @@ unfolding ticksPass tickTest
 ticks-start b n e = rw e (all-start (tickTest b) (b .n))
 
 -- a job that is read out of the array
-pub tick-told : (b : Batch) (i : ℕ) (x : Bool) → x ≡ between 1 (getD (b .jobs) i (record { ticks = 0; masks = [] }) .ticks) 16 → x ≡ tickTest b i
-unfolding tickTest ticksOk
-tick-told b i x e = e ∙ ap (λ (p : ℕ). between 1 p 16) (ticks-told b i)
+pub tick-told : (b : Batch) (i : ℕ) (x : Bool) → x ≡ ticksOk (getD (b .jobs) i (record { ticks = 0; masks = [] }) .ticks) → x ≡ tickTest b i
+unfolding tickTest
+tick-told b i x e = e ∙ ap ticksOk (ticks-told b i)
 
 -- ---- delays
 

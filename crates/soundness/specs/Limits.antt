@@ -1,20 +1,14 @@
 -- Parts of the definition of a sound record that one loop tests: the ticks, the delays, the starts.
-use Prim.Native.Nat.{ℕ, _-_}
+use Prim.Native.Nat.{ℕ}
 use mathlib.Core.Bool.{Bool, _&&_}
 use mathlib.Core.List.{List}
-use lib.IntN.{ℤ, pos, negsuc}
-use lib.Signed.{leZ}
 use lib.Dec.{leb}
 use Rattle.model.specs.declared.Batch.{Batch}
 use Rattle.model.specs.Common.{all, count}
-use Rattle.model.specs.Limits.{mostWeight, mostStart}
+use Rattle.model.specs.Limits.{mostStart}
 use Rattle.model.specs.Batch.{ticks, delaysOf}
 use Rattle.model.specs.Plan.{start}
 use Rattle.model.specs.Open.{countsOk, ticksOk, jobsOk, weightOk}
-
--- a weight is −1,000 to 1,000
-unfoldable pub weightIn : ℤ → Bool
-weightIn w = leZ (negsuc (mostWeight - 1)) w && leZ w (pos mostWeight)
 
 -- each p is within its limits
 unfoldable pub ticksPass : Batch → Bool

@@ -1,6 +1,6 @@
 // Whether a record from anywhere is sound, and in the same pass what a run works on: the clash list, the delays and the ticks as
 // arrays, and the path's turns as numbers. Nothing past a limit is read before the limit is known to hold.
-use crate::limits::limits_ok;
+use crate::batch::limits_pass;
 use crate::path::read_path;
 use crate::state::state_ok;
 use clashes::Clashes;
@@ -15,8 +15,8 @@ ghost use mathlib.Core.Bool.{false};
 ghost use Rattle.model.specs.Sound.{sound};
 ghost use Rattle.soundness.specs.Examined.{Examines};
 
+mod batch;
 mod best;
-mod limits;
 mod path;
 mod state;
 
@@ -56,7 +56,7 @@ pub fn examine(search: Search) -> Examined
     ensures { λ r. ⌜ Examines search r ⌝ }
 {
     let batch = search.batch;
-    if !limits_ok(batch) {
+    if !limits_pass(batch) {
         return unsound();
     }
     let clashes = list_clashes(batch);

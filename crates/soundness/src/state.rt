@@ -1,6 +1,6 @@
 // What soundness asks beside the batch: the path, with no turn at all if the search has ended, the total, and best.
+use crate::batch::wide;
 use crate::best::best_ok;
-use crate::limits::wide;
 use crate::path::Route;
 use crate::path::rest_empty;
 use model::Search;

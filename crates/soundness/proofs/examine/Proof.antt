@@ -5,17 +5,17 @@ use Rattle.soundness.proofs.ExamineLaws.{past-limits, many-clashes, del
 use Rattle.soundness.proofs.examine.Statement.{statement}
 use Rattle.soundness.proofs.examine.Tie as tie
 
-limits-ok-requires : tie.Need-limits-ok-requires
-limits-ok-requires c κs = search needs
+limits-pass-requires : tie.Need-limits-pass-requires
+limits-pass-requires c κs = search needs
 
 unsound-requires : tie.Need-unsound-requires
 unsound-requires c κs = search needs
 
 returns : tie.Need-returns
-returns c = past-limits _ _ (c .unsound .ensures) _ (c .before .before .limits-ok .ensures) (c .before .if1 .taken)
+returns c = past-limits _ _ (c .unsound .ensures) _ (c .before .before .limits-pass .ensures) (c .before .if1 .taken)
 
 list-clashes-requires : tie.Need-list-clashes-requires
-list-clashes-requires c κs = limits-tabled _ _ (c .before .limits-ok .ensures) (c .if1 .left)
+list-clashes-requires c κs = limits-tabled _ _ (c .before .limits-pass .ensures) (c .if1 .left)
 
 unsound-requires-2 : tie.Need-unsound-requires-2
 unsound-requires-2 c κs = search needs
@@ -24,7 +24,7 @@ returns-2 : tie.Need-returns-2
 returns-2 c = many-clashes _ _ (c .unsound2 .ensures) _ (c .before .before .list-clashes .ensures) (c .before .if2 .taken)
 
 delays-met-requires : tie.Need-delays-met-requires
-delays-met-requires c κs = limits-delays _ _ (c .before .before .before .limits-ok .ensures) (c .before .before .if1 .left)
+delays-met-requires c κs = limits-delays _ _ (c .before .before .before .limits-pass .ensures) (c .before .before .if1 .left)
 
 unsound-requires-3 : tie.Need-unsound-requires-3
 unsound-requires-3 c κs = search needs
@@ -39,18 +39,18 @@ state-ok-requires : tie.Need-state-ok-requires
 state-ok-requires c κs =
     let listed = c .before .before .before .before .before .before in (
       counted _ _ _ _ (listed .list-clashes .ensures) (c .before .read-path .ensures),
-      limits-jobs _ _ (listed .before .before .limits-ok .ensures) (listed .before .if1 .left),
+      limits-jobs _ _ (listed .before .before .limits-pass .ensures) (listed .before .if1 .left),
     )
 
 delays-of-requires : tie.Need-delays-of-requires
 delays-of-requires c κs =
     let passed = c .before .before .before .before .before .before .before .before in
-    limits-readable _ _ (passed .before .limits-ok .ensures) (passed .if1 .left)
+    limits-readable _ _ (passed .before .limits-pass .ensures) (passed .if1 .left)
 
 ticks-of-requires : tie.Need-ticks-of-requires
 ticks-of-requires c κs =
     let passed = c .before .before .before .before .before .before .before .before .before in
-    limits-jobs _ _ (passed .before .limits-ok .ensures) (passed .if1 .left)
+    limits-jobs _ _ (passed .before .limits-pass .ensures) (passed .if1 .left)
 
 returns-4 : tie.Need-returns-4
 returns-4 c =
@@ -58,7 +58,7 @@ returns-4 c =
     let met = read .before .before in
     let few = met .before .before in
     let passed = few .before .before in
-    examined _ _ _ _ _ _ _ _ (passed .before .limits-ok .ensures) (passed .if1 .left) (few .before .list-clashes .ensures) (few .if2 .left)
+    examined _ _ _ _ _ _ _ _ (passed .before .limits-pass .ensures) (passed .if1 .left) (few .before .list-clashes .ensures) (few .if2 .left)
     (met .before .delays-met .ensures) (met .if3 .left) (read .read-path .ensures) (c .before .before .state-ok .ensures) (c .before .delays-of .ensures)
     (c .ticks-of .ensures)
 
@@ -66,7 +66,7 @@ pub examine-spec : {M : Type 1} → statement M
 examine-spec =
     tie.close
     (tie.spec
-    limits-ok-requires
+    limits-pass-requires
     unsound-requires
     returns
     list-clashes-requires

@@ -1,0 +1,47 @@
+// The limits of a batch's numbers, as tests: n, m and p (4), a delay's jobs (5) and its weight (6).
+use model::Delay;
+ghost use mathlib.Core.Path.{_≡_};
+ghost use Rattle.model.specs.Open.{countsOk, ticksOk, jobsOk, weightOk};
+
+// n is 1 to 24, and m at most 128.
+pub fn counts_ok(n: u8, m: u8) -> bool
+    ensures { λ r. ⌜ r ≡ countsOk n m ⌝ }
+{
+    if n < 1 {
+        return false;
+    }
+    if 24 < n {
+        return false;
+    }
+    m <= 128
+}
+
+// p is 1 to 16.
+pub fn ticks_ok(p: u8) -> bool
+    ensures { λ r. ⌜ r ≡ ticksOk p ⌝ }
+{
+    1 <= p && p <= 16
+}
+
+// The delay names two different jobs below n.
+pub fn jobs_ok(n: u8, q: Delay) -> bool
+    ensures { λ r. ⌜ r ≡ jobsOk n q ⌝ }
+{
+    let from = q.from;
+    let to = q.to;
+    if n <= from {
+        return false;
+    }
+    if n <= to {
+        return false;
+    }
+    from != to
+}
+
+// The weight is -1,000 to 1,000.
+pub fn weight_ok(q: Delay) -> bool
+    ensures { λ r. ⌜ r ≡ weightOk q ⌝ }
+{
+    let w = q.weight;
+    -1000 <= w && w <= 1000
+}
