@@ -9,11 +9,11 @@ use lib.Dec.{ltb}
 use borrow.Author.Tests.{ltb-true, ltb-false}
 use Rattle.model.specs.declared.Batch.{Batch}
 use Rattle.model.specs.Clash.{Clash, clashes}
+use Rattle.model.proofs.DistanceLaws.{sum-sub}
+use Rattle.model.proofs.ClashLaws.{Listed, clash-listed}
 use Rattle.clashes.specs.Code.{lift, codeOf, clashOf}
 use Rattle.clashes.specs.List.{Tabled}
 use Rattle.clashes.specs.First.{Named}
-use Rattle.clashes.proofs.DistanceLaws.{sum-sub}
-use Rattle.clashes.proofs.ClashLaws.{Listed, clash-listed}
 
 -- a distance that is k − 15 is lifted to k
 pub lift-sub : (k : ℕ) → lift (subℕ k 15) ≡ k
@@ -41,9 +41,9 @@ ranged-at b c t l =
     record {
       rising = l .rising;
       known = omega (arith, l .known, t .few);
-      k = s .a + 15 - s .c;
+      k = s .a + 15 - s .b;
       k-in = omega (arith, s .a-in);
-      distance = sym (s .distance) ∙ sum-sub (s .a) (s .c) (s .a + 15 - s .c) 15 (omega (arith, s .c-in));
+      distance = sym (s .distance) ∙ sum-sub (s .a) (s .b) (s .a + 15 - s .b) 15 (omega (arith, s .b-in));
     }
 
 -- every listed clash is in range

@@ -6,19 +6,34 @@ use mathlib.Core.List.{List, [], _∷_, map, List·Memᴰ, List·Memᴰ·head, L
 use mathlib.Core.Option.{Option, some}
 use native.Mathlib.Numerals.{add-one}
 use native.Mathlib.Omega.{arith}
+use native.Mathlib.Decide.{ℕ-discrete}
+use lib.IntN.{ℤ, subℕ}
 use lib.Dec.{eqb}
+use borrow.Author.Tests.{eq-eqb, ne-eqb}
 use lib.ListN.{getD}
-use Rattle.model.specs.Common.{count}
+use Rattle.model.specs.Common.{count, eqZ}
 use Rattle.model.specs.Clash.{Clash}
 use Rattle.model.specs.Plan.{start}
 use Rattle.model.specs.Search.{met, firstMet}
+use Rattle.model.proofs.BoolLaws.{apart, decide}
+use Rattle.model.proofs.SeqLaws.{count-more, count-end}
+use Rattle.model.proofs.DistanceLaws.{eqZ-eq, eqZ-refl, sub-sum, sum-sub}
 use Rattle.clashes.specs.declared.Met.{Met}
 use Rattle.clashes.specs.declared.Met.the-variants as answer
 use Rattle.clashes.specs.Code.{clashOf}
 use Rattle.clashes.specs.First.{clashesIn, metOf, firstCode}
-use Rattle.clashes.proofs.ListLaws.{apart}
-use Rattle.clashes.proofs.DistanceLaws.{eqZ-sum}
-use Rattle.clashes.proofs.SeqLaws.{count-more, count-end}
+
+-- the test of two distances is one of two sums
+eqZ-sum : (p q a b : ℕ) → eqb (p + b) (q + a) ≡ eqZ (subℕ p q) (subℕ a b)
+eqZ-sum p q a b = go (ℕ-discrete (p + b) (q + a))
+  where
+    go : Dec (p + b ≡ q + a) → eqb (p + b) (q + a) ≡ eqZ (subℕ p q) (subℕ a b)
+    go (yes e) =
+        eq-eqb (p + b) (q + a) e
+        ∙ sym (ap (λ (z : ℤ). eqZ z (subℕ a b)) (sum-sub p q a b (omega arith)) ∙ eqZ-refl (subℕ a b))
+    go (no e) =
+        ne-eqb (p + b) (q + a) e
+        ∙ sym (decide (eqZ (subℕ p q) (subℕ a b)) λ t. e (omega (arith, sub-sum p q a b (eqZ-eq (subℕ p q) (subℕ a b) t))))
 
 -- t_j − t_i = d for the clash of code x, without the integers; t and u are the starts of j and i
 pub code-met : (ts : List ℕ) (x y t u : ℕ) → y ≡ x → t ≡ getD ts (y / 32 % 32) 0 → u ≡ getD ts (y / 1024) 0 → eqb (t + 15) (u + y % 32) ≡ met ts (clashOf x)

@@ -6,10 +6,11 @@ use native.Mathlib.Nat.{mul-suc}
 use native.Mathlib.Omega.{arith}
 use Rattle.model.specs.Common.{count, joined}
 use Rattle.model.specs.Clash.{Clash}
+use Rattle.model.proofs.SeqLaws.{count-more, count-end}
 use Rattle.clashes.specs.declared.Clashes.{Clashes}
 use Rattle.clashes.specs.Code.{codeOf}
 use Rattle.clashes.specs.List.{addAll, Grown}
-use Rattle.clashes.proofs.SeqLaws.{count-more, count-end, map-append}
+use Rattle.clashes.proofs.SeqLaws.{map-append}
 use Rattle.clashes.proofs.StoreLaws.{add-append}
 
 -- the codes of jobs k to n − 1, each job's by f

@@ -1,8 +1,5 @@
 -- Laws about the definitions that the contracts cite, each stated in the code's shape.
-pub mod ListLaws
 pub mod SeqLaws
-pub mod DistanceLaws
-pub mod ClashLaws
 pub mod MaskLaws
 pub mod TableLaws
 pub mod CodeLaws

@@ -12,13 +12,13 @@ use Rattle.model.specs.Common.{count, pad}
 use Rattle.model.specs.Plan.{start}
 use Rattle.model.specs.Clash.{Clash, clashes}
 use Rattle.model.specs.Search.{noClash, met, firstMet}
+use Rattle.model.proofs.SeqLaws.{getD-same, getD-in}
+use Rattle.model.proofs.ClashLaws.{Listed, clash-listed}
 use Rattle.clashes.specs.declared.Clashes.{Clashes}
 use Rattle.clashes.specs.Code.{codeOf, clashOf}
 use Rattle.clashes.specs.List.{Tabled, listOf}
 use Rattle.clashes.specs.First.{Known, clashesIn, metOf, firstCode}
-use Rattle.clashes.proofs.ClashLaws.{Listed, clash-listed}
 use Rattle.clashes.proofs.CodeLaws.{Ranged, listed-ranged, code-back, code-named}
-use Rattle.clashes.proofs.SeqLaws.{getD-same, mem-at}
 use Rattle.clashes.proofs.FirstLaws.{first-agree}
 
 -- ---- the listed clash at a place
@@ -26,11 +26,11 @@ use Rattle.clashes.proofs.FirstLaws.{first-agree}
 module _ (b : Batch) (k : ℕ) (h : k < length (clashes b)) where
   -- it is a clash of two jobs that share a station
   pub listed-at : Listed b (getD (clashes b) k noClash)
-  listed-at = clash-listed b (getD (clashes b) k noClash) (mem-at (clashes b) k noClash h)
+  listed-at = clash-listed b (getD (clashes b) k noClash) (getD-in (clashes b) k noClash h)
 
   -- and in range
   pub ranged-at : Tabled b → Ranged (getD (clashes b) k noClash)
-  ranged-at t = listed-ranged b t (getD (clashes b) k noClash) (mem-at (clashes b) k noClash h)
+  ranged-at t = listed-ranged b t (getD (clashes b) k noClash) (getD-in (clashes b) k noClash h)
 
   -- its code stands at its place
   code-at : length (clashes b) ≤ 1024 → getD (listOf b .codes) k 0 ≡ codeOf (getD (clashes b) k noClash)
@@ -61,11 +61,11 @@ module _ (codes : List ℕ) (cs : List Clash) (ranged : (c : Clash) → List·Me
   codes-in =
       in-from codes cs 0
       (λ k h.
-      rw (zero-add, coded k h) (code-back (getD cs k noClash) (ranged (getD cs k noClash) (mem-at cs k noClash h))))
+      rw (zero-add, coded k h) (code-back (getD cs k noClash) (ranged (getD cs k noClash) (getD-in cs k noClash h))))
 
   -- and name jobs
   pub codes-known : Known codes (length cs)
-  codes-known = record { each = λ k h. rw (coded k h) (code-named (getD cs k noClash) (ranged (getD cs k noClash) (mem-at cs k noClash h))) }
+  codes-known = record { each = λ k h. rw (coded k h) (code-named (getD cs k noClash) (ranged (getD cs k noClash) (getD-in cs k noClash h))) }
 
   -- the scan finds what the model does
   pub first-codes : (ts : List ℕ) → firstCode codes (length cs) ts ≡ metOf (firstMet cs ts 0)

@@ -11,8 +11,8 @@ use lib.Bits.{bitAnd, and-step, and-zero-l}
 use borrow.Author.Tests.{eqb-true, eq-eqb, ne-eqb}
 use Rattle.model.specs.Batch.{bit}
 use Rattle.model.specs.Clash.{meet}
-use Rattle.clashes.proofs.ListLaws.{decide}
-use Rattle.clashes.proofs.ClashLaws.{meet-some, some-meet}
+use Rattle.model.proofs.BoolLaws.{decide}
+use Rattle.model.proofs.ClashLaws.{meet-some, some-meet}
 
 -- bit 0 is the remainder, and bit s + 1 is bit s of the half
 bit-zero : (m : ℕ) → bit m 0 ≡ true → m % 2 ≡ 1

@@ -9,10 +9,10 @@ use Rattle.model.specs.declared.Batch.{Batch}
 use Rattle.model.specs.Common.{count, joined}
 use Rattle.model.specs.Batch.{jobOf, blankJob, ticks}
 use Rattle.model.specs.Clash.{Clash, clashesOf, clashes}
+use Rattle.model.proofs.SeqLaws.{getD-same}
 use Rattle.clashes.specs.declared.Clashes.{Clashes}
 use Rattle.clashes.specs.Code.{codeOf}
 use Rattle.clashes.specs.List.{listing, listOf, pairCodes, rowCodes, Grown, Tabled}
-use Rattle.clashes.proofs.SeqLaws.{getD-same}
 use Rattle.clashes.proofs.StoreLaws.{full, add-empty}
 use Rattle.clashes.proofs.PairLaws.{pair-codes}
 use Rattle.clashes.proofs.GrowLaws.{codesFrom, Growing, grow-more, grow-end}

@@ -1,13 +1,14 @@
 -- Codes put one after the other count them all and leave the first 1,024 in their places.
-use Prim.Native.Nat.{ℕ, suc, _+_, _-_, _≤_, _<_}
+use Prim.Native.Nat.{ℕ, _+_, _≤_, _<_}
 use mathlib.Core.Path.{_≡_, refl, sym, ap, _∙_}
 use mathlib.Core.List.{List, [], _∷_, _++_, append-assoc, append-nil}
 use native.Mathlib.Omega.{arith}
 use native.Mathlib.Decide.{decLt}
 use lib.ListN.{length, take, set, replicate, length-append}
-use lib.Seq.{take-all, take-append-le, set-append-seam}
+use lib.Seq.{take-all, take-append-le}
 use borrow.Author.Tests.{lt-ltb, le-ltb}
 use Rattle.model.specs.Common.{if_then_else_, pad}
+use Rattle.model.proofs.SeqLaws.{pad-put}
 use Rattle.clashes.specs.declared.Clashes.{Clashes}
 use Rattle.clashes.specs.List.{listing, put, addAll}
 
@@ -34,13 +35,6 @@ unfolding addAll
 add-append l [] ys = refl
 add-append l (x ∷ xs) ys = add-append (put l x) xs ys
 
--- the next code takes the first blank place
-store-end : (xs : List ℕ) (x : ℕ) → length xs < 1024 → set (pad 1024 0 xs) (length xs) x ≡ pad 1024 0 (xs ++ (x ∷ []))
-unfolding pad
-store-end xs x h =
-    let e : 1024 - length xs ≡ suc (1024 - length (xs ++ (x ∷ []))) = omega (arith, length-append xs (x ∷ [])) in
-    rw e (set-append-seam xs 0 (replicate (1024 - length (xs ++ (x ∷ []))) 0) x ∙ sym (append-assoc xs (x ∷ []) (replicate (1024 - length (xs ++ (x ∷ []))) 0)))
-
 -- so a list that holds some codes holds one more
 put-full : (xs : List ℕ) (x : ℕ) → put (full xs) x ≡ full (xs ++ (x ∷ []))
 unfolding full
@@ -52,7 +46,7 @@ put-full xs x = go (decLt (length xs) 1024)
     go : Dec (length xs < 1024) → put (full xs) x ≡ full (xs ++ (x ∷ []))
     go (yes h) =
         sym (put-in (length xs) x (pad 1024 0 (take 1024 xs)) (set (pad 1024 0 (take 1024 xs)) (length xs) x) h refl)
-        ∙ rw (take-all 1024 xs (omega arith), store-end xs x h, take-all 1024 (xs ++ (x ∷ [])) (omega (arith, n)), n)
+        ∙ rw (take-all 1024 xs (omega arith), pad-put 1024 0 xs (length xs) x refl h, take-all 1024 (xs ++ (x ∷ [])) (omega (arith, n)), n)
     go (no h) =
         sym (put-out (length xs) x (pad 1024 0 (take 1024 xs)) (pad 1024 0 (take 1024 xs)) (omega arith) refl)
         ∙ rw (take-append-le 1024 xs (x ∷ []) (omega arith), n)

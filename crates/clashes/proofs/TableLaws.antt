@@ -9,10 +9,10 @@ use lib.IntN.{ℤ, subℕ}
 use Rattle.model.specs.declared.Job.{Job}
 use Rattle.model.specs.Common.{count, any, eqZ}
 use Rattle.model.specs.Clash.{meet}
+use Rattle.model.proofs.BoolLaws.{apart, decide, both, and}
+use Rattle.model.proofs.ListLaws.{any-some, some-any, count-some, some-count}
+use Rattle.model.proofs.DistanceLaws.{eqZ-eq, eqZ-refl, sub-sum, sum-sub}
 use Rattle.clashes.specs.Tables.{tablesMeet}
-use Rattle.clashes.proofs.ListLaws.{apart, decide, any-some, some-any, count-some, some-count}
-use Rattle.clashes.proofs.DistanceLaws.{eqZ-eq, eqZ-refl, sub-sum, sum-sub}
-use Rattle.clashes.proofs.ClashLaws.{both, and}
 
 -- tick a of the first table shares a station with the tick of the second that is at distance k − 15
 abbrev pub meetAt : Job → Job → ℕ → ℕ → Bool

@@ -1,17 +1,11 @@
 // The first clash of a list of codes that starts meet: a scan that stops at the first, with no signed number.
 use crate::Met;
+use model::wide16;
 ghost use mathlib.Core.Path.{_≡_};
-ghost use Prim.Native.Nat.{_≤_, _<_};
+ghost use Prim.Native.Nat.{_≤_};
 ghost use Rattle.model.specs.Search.{met};
 ghost use Rattle.clashes.specs.Code.{clashOf};
 ghost use Rattle.clashes.specs.First.{firstCode, Known, Named};
-
-// A number as an index or a tick.
-fn wide16(x: u16) -> usize
-    ensures { λ r. ⌜ (r ≡ x) × (r < 65536) ⌝ }
-{
-    x as usize
-}
 
 // t_j - t_i = d for the clash of a code, as t_j + 15 = t_i + (d + 15).
 fn is_met(code: u16, starts: &[u16; 24]) -> bool

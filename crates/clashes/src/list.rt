@@ -2,9 +2,9 @@
 // the rows of job i, the pairs of jobs i and j, the distances of a pair.
 use crate::Clashes;
 use crate::tables::tables_meet;
-use crate::tables::wide;
 use model::Batch;
 use model::Job;
+use model::wide;
 ghost use mathlib.Core.Path.{_≡_};
 ghost use Prim.Native.Nat.{_*_, _≤_, _<_};
 ghost use Rattle.clashes.specs.List.{listing, put, pairCodes, rowCodes, listOf, Grown, Tabled};

@@ -1,18 +1,12 @@
 // Two reservation tables at a distance: whether some station is held in a tick of each, the ticks being that distance apart.
 // A distance d is passed as k = d + 15, and only ticks that lie over each other are tested, mask against mask.
 use model::Job;
+use model::wide;
 ghost use mathlib.Core.Path.{_≡_};
 ghost use Prim.Native.Nat.{_+_, _-_, _≤_, _<_, min};
 ghost use lib.IntN.{subℕ};
 ghost use Rattle.model.specs.Clash.{meet};
 ghost use Rattle.clashes.specs.Tables.{tablesMeet};
-
-// A small number as an index.
-pub fn wide(x: u8) -> usize
-    ensures { λ r. ⌜ r ≡ x ⌝ }
-{
-    x as usize
-}
 
 // Some station is in both masks.
 fn share(first: u16, second: u16) -> bool

@@ -1,15 +1,14 @@
 -- No least start passes 23,000, and no latency 23,016: a round raises a start by at most 1,000, and after round n − 1 nothing changes.
-use Prim.Native.Nat.{ℕ, zero, suc, _+_, _-_, _*_, _≤_, _<_, max, pred}
+use Prim.Native.Nat.{ℕ, zero, suc, _+_, _*_, _≤_, _<_, max, pred}
 use mathlib.Core.Path.{_≡_, refl, ap}
 use mathlib.Core.Bool.{true}
 use mathlib.Core.Logic.{_⊎_, inl, inr}
-use mathlib.Core.Option.{Option, some}
+use mathlib.Core.Option.{some}
 use mathlib.Core.List.{List, [], _∷_, map, foldr, List·Memᴰ, List·Memᴰ·head, List·Memᴰ·tail}
 use native.Mathlib.Omega.{arith}
 use native.Mathlib.Decide.{decLt}
 use lib.IntN.{ℤ, pos, negsuc, subℕ, _+ℤ_, _-ℤ_}
 use lib.Signed.{leZ}
-use lib.Dec.{leb}
 use borrow.Author.Tests.{leb-true}
 use lib.ListN.{length, getD}
 use Rattle.model.specs.declared.Batch.{Batch}
@@ -17,14 +16,14 @@ use Rattle.model.specs.declared.Delay.{Delay}
 use Rattle.model.specs.declared.Turn.{Turn}
 use Rattle.model.specs.Common.{count}
 use Rattle.model.specs.Limits.{mostStart, mostLatency}
-use Rattle.model.specs.Batch.{ticks, delaysOf}
+use Rattle.model.specs.Batch.{ticks}
 use Rattle.model.specs.Plan.{start, finish, latency}
 use Rattle.model.specs.Clash.{Clash, clashes}
-use Rattle.model.specs.Starts.{plus, raised, rounds, firstStarts, leastStarts}
+use Rattle.model.specs.Starts.{plus, raised, rounds, firstStarts}
 use Rattle.model.specs.Search.{sideOf, turned, inequalities, startsAt, noClash}
 use Rattle.model.proofs.ListLaws.{count-some}
-use Rattle.model.proofs.ClashLaws.{Shared, Listed}
-use Rattle.model.proofs.SideLaws.{le-sub, sub-pos, sub-neg}
+use Rattle.model.proofs.ClashLaws.{Listed}
+use Rattle.model.proofs.DistanceLaws.{le-sub, sub-pos, sub-neg}
 use Rattle.model.proofs.StartsLaws.{after, after-suc, after-out, raised-why, Why, reach, first-zero, least-round}
 use Rattle.model.proofs.NodeLaws.{Fits, Named, each, turn-listed}
 

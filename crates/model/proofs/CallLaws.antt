@@ -1,36 +1,33 @@
 -- Demand 3: whatever list of run calls a freshly opened search gets, its record is the one that 01's steps reach with the smaller of S and
 -- N nodes, and the last answer follows from it. An invariant that each call keeps.
-use Prim.Native.Nat.{ℕ, zero, suc, _+_, _-_, _≤_, _<_, min}
-use mathlib.Core.Path.{_≡_, refl, ap, ap₂, sym, _∙_, subst}
+use Prim.Native.Nat.{ℕ, _+_, _≤_, _<_, min}
+use mathlib.Core.Path.{_≡_, refl, ap, sym, _∙_, subst}
 use mathlib.Core.Logic.{_⊎_, inl, inr, _↔_}
 use mathlib.Core.Bool.{Bool, true, false, not, _&&_, _||_}
-use mathlib.Core.Option.{Option, none, some}
 use mathlib.Core.List.{List, [], _∷_, _++_}
 use native.Mathlib.Omega.{arith}
 use native.Mathlib.Decide.{decLt}
 use lib.ListN.{length, take, drop}
 use lib.Seq.{take-at}
 use lib.Dec.{leb, ltb}
-use borrow.Author.Tests.{leb-true, leb-false, le-leb, ltb-true, ltb-false, lt-ltb, le-ltb}
+use borrow.Author.Tests.{le-leb, lt-leb, ltb-true, ltb-false, lt-ltb}
 use Rattle.model.specs.declared.Batch.{Batch}
 use Rattle.model.specs.declared.Best.{Best}
 use Rattle.model.specs.declared.Best.the-variants.{Nothing, Latency}
 use Rattle.model.specs.declared.Search.{Search}
-use Rattle.model.specs.declared.Answer.{Answer}
-use Rattle.model.specs.declared.Answer.the-variants.{Spent, Plan, NoPlan, Refused}
 use Rattle.model.specs.declared.Ran.{Ran}
 use Rattle.model.specs.Common.{if_then_else_, Outcome, refuse, accept, _>>=_, require}
 use Rattle.model.specs.Limits.{mostBudget, mostTotal}
 use Rattle.model.specs.Plan.{Valid, Shortest, latency}
 use Rattle.model.specs.Clash.{clashes}
-use Rattle.model.specs.Search.{Incumbent, placeOf, freshSearch, nodesOn, nodes, Ends}
+use Rattle.model.specs.Search.{placeOf, freshSearch, nodesOn, nodes}
 use Rattle.model.specs.Sound.{sound}
 use Rattle.model.specs.Run.{runRefusal, answerOf, startsAfter, answered, ranAs, ran}
 use Rattle.model.specs.Answers.{Verdict, spent, plan, noPlan, runTold, totalTold}
 use Rattle.model.specs.Calls.{Call, call, after, refuses, granted}
 use Rattle.model.specs.Demands.{Reached, AnswerFor, Demand3}
-use Rattle.model.proofs.ListLaws.{apart}
-use Rattle.model.proofs.NodeLaws.{Fits, BestLe}
+use Rattle.model.proofs.BoolLaws.{apart}
+use Rattle.model.proofs.NodeLaws.{BestLe}
 use Rattle.model.proofs.GoodLaws.{ValidBest}
 use Rattle.model.proofs.SoundLaws.{Passes, fits, sound-nodes}
 use Rattle.model.proofs.EndLaws.{End, best-valid, nodes-fresh, nodes-more, nodes-total, nodes-past, ends-not-before, fresh-total}
@@ -41,11 +38,7 @@ le-not-lt : (x y : ℕ) → leb x y ≡ not (ltb y x)
 le-not-lt x y = go (ltb y x) refl
   where
     go : (p : Bool) → ltb y x ≡ p → leb x y ≡ not p
-    go true e = no (leb x y) refl (ltb-true y x e)
-      where
-        no : (q : Bool) → leb x y ≡ q → y < x → q ≡ false
-        no true f h = absurd (omega (arith, leb-true x y f))
-        no false f h = refl
+    go true e = lt-leb x y (ltb-true y x e)
     go false e = le-leb x y (omega (arith, ltb-false y x e))
 
 -- 11 to 14 with 12 passed
@@ -123,6 +116,14 @@ module _ (b : Batch) (passes : Passes b) (n : ℕ) (end : End b (fits b passes) 
 
   -- ---- the answer that a record gives
 
+  -- the total is at or above n where the test says so
+  upper : (s : ℕ) → true ≡ not (ltb s n) → n ≤ s
+  upper s e = go (ltb s n) refl e
+    where
+      go : (p : Bool) → ltb s n ≡ p → true ≡ not p → n ≤ s
+      go true f g = apart (sym g)
+      go false f g = omega (arith, ltb-false s n f)
+
   -- by cases of what the record says: ended, best, total and starts
   answer-by :
       (s : ℕ) (e : Bool) (best : Best) (total m : ℕ) (starts list : List ℕ) → e ≡ not (ltb s n) → total ≡ min s n → m ≡ b .n
@@ -145,7 +146,7 @@ module _ (b : Batch) (passes : Passes b) (n : ℕ) (end : End b (fits b passes) 
       lower true f g = ltb-true s n f
       lower false f g = apart g
   answer-by s true Nothing total m starts list e t q h =
-      let above : n ≤ s = upper (ltb s n) refl e in
+      let above : n ≤ s = upper s e in
       let all : total ≡ n = omega arith in
       record {
         verdict = noPlan total;
@@ -156,12 +157,8 @@ module _ (b : Batch) (passes : Passes b) (n : ℕ) (end : End b (fits b passes) 
         is-none = λ g f. ap noPlan all;
         shortest = λ l k f. let z : _≡_ {A = ℕ} 0 1 = cc in absurd (omega arith);
       }
-    where
-      upper : (p : Bool) → ltb s n ≡ p → true ≡ not p → n ≤ s
-      upper true f g = apart (sym g)
-      upper false f g = omega (arith, ltb-false s n f)
   answer-by s true (Latency l) total m starts list e t q h =
-      let above : n ≤ s = upper (ltb s n) refl e in
+      let above : n ≤ s = upper s e in
       let all : total ≡ n = omega arith in
       let v = h above .0 in
       let placed : take (b .n) (take m starts ++ drop m list) ≡ take (b .n) starts =
@@ -179,10 +176,6 @@ module _ (b : Batch) (passes : Passes b) (n : ℕ) (end : End b (fits b passes) 
               ap (latency b) placed ∙ v .1 ∙ z,
             );
       }
-    where
-      upper : (p : Bool) → ltb s n ≡ p → true ≡ not p → n ≤ s
-      upper true f g = apart (sym g)
-      upper false f g = omega (arith, ltb-false s n f)
 
   answer-at : (s : ℕ) (list : List ℕ) → AnswerFor b n s (runTold (answered (at (min s n)) list .0 .answer)) (answered (at (min s n)) list .1)
   unfolding answered placeOf

@@ -1,63 +1,22 @@
 -- No two jobs hold one station in the same tick exactly when no listed clash is met.
-use Prim.Native.Nat.{ℕ, zero, suc, _+_, _-_, _≤_, _<_}
+use Prim.Native.Nat.{ℕ, suc, _+_, _-_, _≤_, _<_}
 use mathlib.Core.Path.{_≡_, refl, ap, sym, _∙_, subst}
-use mathlib.Core.Logic.{_≢_}
-use mathlib.Core.Bool.{Bool, true, false, cond, _&&_}
-use mathlib.Core.List.{List, [], _∷_, map, List·Memᴰ, Memᴰ·cast}
+use mathlib.Core.Bool.{true, false, _&&_}
+use mathlib.Core.List.{List, List·Memᴰ, Memᴰ·cast}
 use native.Mathlib.Omega.{arith}
-use lib.IntN.{ℤ, pos, negsuc, subℕ}
-use lib.Dec.{T, ltb, eqb}
-use borrow.Author.Tests.{ltb-true, ltb-false, eqb-true, eq-eqb, lt-ltb, le-ltb}
+use lib.IntN.{ℤ, subℕ}
 use Rattle.model.specs.declared.Batch.{Batch}
 use Rattle.model.specs.Common.{count, any, keep, joined, eqZ}
 use Rattle.model.specs.Batch.{ticks, mask, bit}
 use Rattle.model.specs.Plan.{start, Holds, KeepsStations}
 use Rattle.model.specs.Clash.{Clash, meet, clashing, distances, clashesOf, clashes}
 use Rattle.model.specs.Search.{met}
-use Rattle.model.proofs.ListLaws.{apart, both, and, T-true, true-T, any-some, some-any, keep-some, some-keep, map-some, some-map, joined-some, some-joined, count-some, some-count}
-
-pub eqZ-eq : (x y : ℤ) → eqZ x y ≡ true → x ≡ y
-unfolding eqZ
-eqZ-eq (pos a) (pos b) e = ap pos (eqb-true a b e)
-eqZ-eq (pos a) (negsuc b) e = apart e
-eqZ-eq (negsuc a) (pos b) e = apart e
-eqZ-eq (negsuc a) (negsuc b) e = ap negsuc (eqb-true a b e)
-
-pub eqZ-refl : (x : ℤ) → eqZ x x ≡ true
-unfolding eqZ
-eqZ-refl (pos a) = eq-eqb a a refl
-eqZ-refl (negsuc a) = eq-eqb a a refl
-
--- p − q = a − b
-diff : ℕ → ℕ → Bool → ℤ
-diff p q c = cond c (negsuc (q - suc p)) (pos (p - q))
-
-sub-sum : (p q a b : ℕ) → subℕ p q ≡ subℕ a b → p + b ≡ a + q
-unfolding diff
-sub-sum p q a b e = go (ltb p q) refl (ltb a b) refl e
-  where
-    go : (c : Bool) → ltb p q ≡ c → (d : Bool) → ltb a b ≡ d → diff p q c ≡ diff a b d → p + b ≡ a + q
-    go true h true k e = let z : q - suc p ≡ b - suc a = cc in omega (arith, ltb-true p q h, ltb-true a b k)
-    go true h false k e = let z : _≡_ {A = ℕ} 0 1 = cc in absurd (omega arith)
-    go false h true k e = let z : _≡_ {A = ℕ} 0 1 = cc in absurd (omega arith)
-    go false h false k e = let z : p - q ≡ a - b = cc in omega (arith, ltb-false p q h, ltb-false a b k)
-
-sum-sub : (p q a b : ℕ) → p + b ≡ a + q → subℕ p q ≡ subℕ a b
-unfolding diff
-sum-sub p q a b e = go (ltb p q) refl (ltb a b) refl
-  where
-    go : (c : Bool) → ltb p q ≡ c → (d : Bool) → ltb a b ≡ d → diff p q c ≡ diff a b d
-    go true h true k = ap negsuc (omega (arith, ltb-true p q h, ltb-true a b k))
-    go true h false k = absurd (omega (arith, ltb-true p q h, ltb-false a b k))
-    go false h true k = absurd (omega (arith, ltb-false p q h, ltb-true a b k))
-    go false h false k = ap pos (omega (arith, ltb-false p q h, ltb-false a b k))
+use Rattle.model.proofs.BoolLaws.{apart, decide, both, and, T-true, true-T}
+use Rattle.model.proofs.DistanceLaws.{eqZ-eq, eqZ-refl, sub-sum, sum-sub}
+use Rattle.model.proofs.ListLaws.{any-some, some-any, keep-some, some-keep, map-some, some-map, joined-some, some-joined, count-some, some-count}
 
 unfoldable pub Unmet : Batch → List ℕ → Type 0
 Unmet b ts = (c : Clash) → List·Memᴰ c (clashes b) → met ts c ≡ false
-
-decide : (p : Bool) → (p ≡ true → ⊥) → p ≡ false
-decide true h = absurd (h refl)
-decide false h = refl
 
 -- ---- what a listed clash is
 
@@ -72,14 +31,16 @@ pub record Shared (p : Batch) (i j : ℕ) (d : ℤ) : Type 0 where
   pub first : bit (mask p i a) s ≡ true
   pub second : bit (mask p j b) s ≡ true
 
-meet-some : (m m′ : ℕ) → meet m m′ ≡ true → (s : ℕ) × (s < 16) × (bit m s ≡ true) × (bit m′ s ≡ true)
+-- masks that meet share a station
+pub meet-some : (m m′ : ℕ) → meet m m′ ≡ true → (s : ℕ) × (s < 16) × (bit m s ≡ true) × (bit m′ s ≡ true)
 unfolding meet
 meet-some m m′ e =
     let s = any-some (λ s. bit m s && bit m′ s) (count 0 16) e in
     let h = both (bit m (s .0)) (bit m′ (s .0)) (s .2) in
     (s .0, omega (arith, count-some 0 16 (s .0) (s .1) .1), h .0, h .1)
 
-some-meet : (m m′ s : ℕ) → s < 16 → bit m s ≡ true → bit m′ s ≡ true → meet m m′ ≡ true
+-- and back
+pub some-meet : (m m′ s : ℕ) → s < 16 → bit m s ≡ true → bit m′ s ≡ true → meet m m′ ≡ true
 unfolding meet
 some-meet m m′ s h p q = some-any (λ s. bit m s && bit m′ s) (count 0 16) (some-count 0 16 s (omega arith) (omega arith)) (and p q)
 

@@ -1,27 +1,25 @@
 -- Records: a node of the record is a node of its place. So a sound record stays good, a search ends after at most the nodes that its path
 -- leaves open, and a fresh one ends with a shortest valid plan, or with none where there is none.
-use Prim.Native.Nat.{ℕ, zero, suc, _+_, _-_, _^_, _≤_, _<_}
+use Prim.Native.Nat.{ℕ, zero, suc, _+_, _-_, _≤_, _<_}
 use mathlib.Core.Path.{_≡_, refl, ap, sym, _∙_, subst}
 use mathlib.Core.Logic.{_⊎_, inl, inr}
 use mathlib.Core.Bool.{Bool, true, false, not, _&&_}
-use mathlib.Core.Option.{Option, none, some}
+use mathlib.Core.Option.{none, some}
 use mathlib.Core.List.{List, [], _∷_, _++_, List·Memᴰ, List·Memᴰ·head, List·Memᴰ·tail}
 use native.Mathlib.Omega.{arith}
 use native.Mathlib.Decide.{decLe}
-use lib.ListN.{length, take, replicate}
+use lib.ListN.{length, replicate}
 use lib.Dec.{eqb}
 use borrow.Author.Tests.{ne-eqb}
 use Rattle.model.specs.declared.Batch.{Batch}
 use Rattle.model.specs.declared.Turn.{Turn}
-use Rattle.model.specs.declared.Best.{Best}
-use Rattle.model.specs.declared.Best.the-variants.{Nothing, Latency}
 use Rattle.model.specs.declared.Search.{Search}
 use Rattle.model.specs.Common.{upTo, pad}
 use Rattle.model.specs.Limits.{mostClashes}
 use Rattle.model.specs.Plan.{Valid, latency}
-use Rattle.model.specs.Clash.{Clash, clashes}
+use Rattle.model.specs.Clash.{clashes}
 use Rattle.model.specs.Search.{Incumbent, Place, startsAt, firstMet, becomeBest, next, empty, isTurn, turnsOf, placeOf, searchOf, freshPlace, freshSearch, node, nodesOn, nodes, Ends, nodeLimit}
-use Rattle.model.proofs.ListLaws.{apart}
+use Rattle.model.proofs.BoolLaws.{apart}
 use Rattle.model.proofs.BackLaws.{tree, left, left-pos}
 use Rattle.model.proofs.NodeLaws.{Fits, Named, BestLe, Live, live-next}
 use Rattle.model.proofs.GoodLaws.{GoodTurns, good-none, good-named, Good, Step, step-next, ValidBest, valid-new}

@@ -14,7 +14,8 @@ use Rattle.model.specs.Limits.{mostJobs, mostDelays}
 use Rattle.model.specs.Batch.{blankJob, blankDelay, jobOf, ticks, mask, delayOf, delaysOf}
 use Rattle.model.specs.Format.{headerLine, masksOf, jobLine, delayLine, jobsOf, batchFile, Within, batchOf, blanked}
 use Rattle.model.specs.Open.{countsOk, fewClashes, delaysMet, header, job, delay, readOne, readAll, readFile, openFile}
-use Rattle.model.proofs.ListLaws.{apart, count-length, each-item, index-in, by-index}
+use Rattle.model.proofs.BoolLaws.{apart}
+use Rattle.model.proofs.ListLaws.{count-length, each-item, index-in, by-index}
 use Rattle.model.proofs.OutcomeLaws.{accept-eq, bind-accepts, accepts-bind, require-accepts, accepts-require}
 use Rattle.model.proofs.LimitLaws.{LimitsOk, counts-iff, within-limits, limits-within}
 use Rattle.model.proofs.ReadLaws.{one-back, one-forth, all-back, all-forth}

@@ -9,8 +9,8 @@ use native.Mathlib.Omega.{arith}
 use lib.ListN.{length, getD, drop, replicate, length-map}
 use lib.IntN.{ℤ, pos, negsuc}
 use lib.Signed.{_≤ℤ_, mag}
-use lib.Dec.{leb, ltb, eqb, leb→le}
-use borrow.Author.Tests.{lt-ltb, le-ltb, eqb-true, eq-eqb, le-leb}
+use lib.Dec.{ltb, eqb, leb→le}
+use borrow.Author.Tests.{lt-ltb, le-ltb, eqb-true, eq-eqb}
 use Rattle.model.specs.declared.Delay.{Delay}
 use Rattle.model.specs.declared.Job.{Job}
 use Rattle.model.specs.Common.{if_then_else_, count, pad, joined, accept, _>>=_, require}
@@ -18,7 +18,8 @@ use Rattle.model.specs.Limits.{mostJobs, mostTicks, mostWeight}
 use Rattle.model.specs.Line.{two}
 use Rattle.model.specs.Format.{unsigned, masksOf, padJob}
 use Rattle.model.specs.Open.{countsOk, ticksOk, jobsOk, weightOk, at, wide, signed, frameIs, header, wides, jobIn, job, delayIn, delay}
-use Rattle.model.proofs.ListLaws.{both, and, each-nil, each-cons, each-head, each-tail, count-length, by-index}
+use Rattle.model.proofs.BoolLaws.{both, and}
+use Rattle.model.proofs.ListLaws.{each-nil, each-cons, each-head, each-tail, count-length, by-index}
 use Rattle.model.proofs.OutcomeLaws.{accept-eq, require-accepts, accepts-require}
 use Rattle.model.proofs.LineLaws.{IsByte, Bytes}
 use Rattle.model.proofs.LimitLaws.{counts-iff, ticks-iff, jobs-iff, weight-iff}

@@ -1,11 +1,11 @@
 -- What holds at every place that a search reaches: its turns are on different listed clashes with sides 0 or 1, there are none when it
 -- has ended, and its best is what was found. Each node keeps this and leaves less open.
-use Prim.Native.Nat.{ℕ, zero, suc, _+_, _-_, _≤_, _<_}
-use mathlib.Core.Path.{_≡_, refl, ap, sym, _∙_, subst}
+use Prim.Native.Nat.{ℕ, _-_, _≤_, _<_}
+use mathlib.Core.Path.{_≡_, refl, ap, sym, subst}
 use mathlib.Core.Logic.{_⊎_, inl, inr}
 use mathlib.Core.Bool.{Bool, true, false}
 use mathlib.Core.Option.{Option, none, some}
-use mathlib.Core.List.{List, [], _∷_, _++_, map, List·Memᴰ, List·Memᴰ·head, List·Memᴰ·tail, List·Memᴰ·not-nil, List·Memᴰ·append-cases, List·Memᴰ·eq-of-singleton}
+use mathlib.Core.List.{List, [], _∷_, _++_, List·Memᴰ, List·Memᴰ·head, List·Memᴰ·tail, List·Memᴰ·not-nil, List·Memᴰ·append-cases, List·Memᴰ·eq-of-singleton}
 use native.Mathlib.Omega.{arith}
 use lib.ListN.{length, take, replicate, length-map, length-append}
 use lib.Seq.{take-at}
@@ -18,7 +18,8 @@ use Rattle.model.specs.Limits.{mostJobs}
 use Rattle.model.specs.Plan.{Valid, latency}
 use Rattle.model.specs.Clash.{clashes}
 use Rattle.model.specs.Search.{Incumbent, Place, startsAt, firstMet, turnedBack, backTo, back, prunes, becomeBest, branch, visit, next}
-use Rattle.model.proofs.ListLaws.{apart, some-map, map-some}
+use Rattle.model.proofs.BoolLaws.{apart}
+use Rattle.model.proofs.ListLaws.{some-map}
 use Rattle.model.proofs.StartsLaws.{Different, pigeons}
 use Rattle.model.proofs.BackLaws.{numbers, Backed, BackTo, back-is, back-numbers, back-different, back-sides, left, left-append, left-back}
 use Rattle.model.proofs.NodeLaws.{Fits, Named, met-first, met-new, at-length, valid-found}
@@ -31,7 +32,7 @@ different-append (x ∷ xs) k d n = (λ m. new (List·Memᴰ·append-cases xs m)
     new (inl m) = d .0 m
     new (inr m) = n (List·Memᴰ·head (sym (List·Memᴰ·eq-of-singleton m)))
 
-numbers-append : (ts : List Turn) (t : Turn) → numbers (ts ++ (t ∷ [])) ≡ numbers ts ++ (t .clash ∷ [])
+pub numbers-append : (ts : List Turn) (t : Turn) → numbers (ts ++ (t ∷ [])) ≡ numbers ts ++ (t .clash ∷ [])
 unfolding numbers
 numbers-append [] t = refl
 numbers-append (u ∷ ts) t = ap (λ (l : List ℕ). u .clash ∷ l) (numbers-append ts t)

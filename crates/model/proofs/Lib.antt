@@ -1,8 +1,10 @@
 -- The laws about the definitions: pure mathematics, no code. Each depends only on those above it.
+pub mod BoolLaws
 pub mod ListLaws
 pub mod SeqLaws
 pub mod OutcomeLaws
 pub mod PlusLaws
+pub mod DistanceLaws
 pub mod SideLaws
 pub mod StartsLaws
 pub mod ClashLaws

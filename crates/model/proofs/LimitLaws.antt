@@ -15,7 +15,7 @@ use Rattle.model.specs.Limits.{mostJobs, mostDelays, mostTicks, mostWeig
 use Rattle.model.specs.Batch.{ticks, mask, delaysOf}
 use Rattle.model.specs.Format.{Within}
 use Rattle.model.specs.Open.{countsOk, ticksOk, jobsOk, weightOk}
-use Rattle.model.proofs.ListLaws.{both, and, T-true, true-T}
+use Rattle.model.proofs.BoolLaws.{both, and, T-true, true-T}
 
 -- ---- each test is its limit
 

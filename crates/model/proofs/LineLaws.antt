@@ -12,7 +12,9 @@ use lib.Dec.{leb, ltb, eqb}
 use borrow.Author.Tests.{leb-true, le-leb, lt-leb, ltb-true, ltb-false, lt-ltb, le-ltb, eqb-true, ne-eqb, not-false}
 use Rattle.model.specs.Common.{if_then_else_, between, upTo, joined}
 use Rattle.model.specs.Line.{digit, byte, bytesOf, lineOf, frameBytes, readLine, digitOf, digitsOf, line}
-use Rattle.model.proofs.ListLaws.{both, each-nil, each-cons, each-head, each-tail}
+use Rattle.model.proofs.BoolLaws.{both}
+use Rattle.model.proofs.ListLaws.{each-nil, each-cons, each-head, each-tail}
+use Rattle.model.proofs.SeqLaws.{upTo-drop}
 
 -- eight bits
 abbrev pub IsByte : ℕ → Type 0
@@ -106,20 +108,7 @@ bytes-of (b ∷ bs) h =
 
 -- ---- the first line of a file
 
--- what stands before the first character that fails, and the rest
-upTo-drop : (f : ℕ → Bool) (xs : List ℕ) → upTo f xs ++ drop (length (upTo f xs)) xs ≡ xs
-unfolding upTo
-upTo-drop f [] = refl
-upTo-drop f (x ∷ xs) = go (f x) (upTo-drop f xs)
-  where
-    part : Bool → List ℕ
-    part p = elim p [ true ↦ x ∷ upTo f xs | false ↦ [] ]
-
-    go : (p : Bool) → upTo f xs ++ drop (length (upTo f xs)) xs ≡ xs → part p ++ drop (length (part p)) (x ∷ xs) ≡ x ∷ xs
-    go true h = ap (λ (l : List ℕ). x ∷ l) h
-    go false h = refl
-
--- the rest begins with a character that fails
+-- what follows the characters before the first that fails begins with one that fails
 upTo-next : (f : ℕ → Bool) (xs : List ℕ) (y : ℕ) (ys : List ℕ) → drop (length (upTo f xs)) xs ≡ y ∷ ys → f y ≡ false
 unfolding upTo
 upTo-next f [] y ys e = let z : _≡_ {A = ℕ} 0 1 = cc in absurd (omega arith)

@@ -1,33 +1,13 @@
--- Members of the lists that the definitions are built with, tests joined by &&, and lists read by index.
+-- Members of the lists that the definitions are built with, and lists read by index.
 use Prim.Native.Nat.{ℕ, zero, suc, _+_, _≤_, _<_}
 use mathlib.Core.Path.{_≡_, refl, ap, sym, _∙_, subst}
 use mathlib.Core.Logic.{_⊎_, inl, inr}
-use mathlib.Core.Bool.{Bool, true, false, _&&_}
+use mathlib.Core.Bool.{Bool, true, false}
 use mathlib.Core.List.{List, [], _∷_, _++_, map, List·Memᴰ, List·Memᴰ·head, List·Memᴰ·tail, List·Memᴰ·not-nil, List·Memᴰ·cases-cons, List·Memᴰ·append-cases, Memᴰ·append-left, Memᴰ·append-right}
 use native.Mathlib.Omega.{arith}
 use lib.ListN.{length, getD}
-use lib.Dec.{T}
 use Rattle.model.specs.Common.{count, all, any, keep, joined, if_then_else_}
-
--- a test is not both passed and failed
-pub apart : {X : Type 0} → false ≡ true → X
-apart e = let z : _≡_ {A = ℕ} 0 1 = cc in absurd (omega arith)
-
--- both tests of a conjunction pass, and the other way
-pub both : (a b : Bool) → (a && b) ≡ true → (a ≡ true) × (b ≡ true)
-both true b e = (refl, e)
-both false b e = apart e
-
-pub and : {a b : Bool} → a ≡ true → b ≡ true → (a && b) ≡ true
-and p q = rw (p, q)
-
--- a test as a type, and as an equation
-pub T-true : (b : Bool) → T b → b ≡ true
-T-true true t = refl
-T-true false t = absurd t
-
-pub true-T : {b : Bool} → b ≡ true → T b
-true-T e = rw e tt
+use Rattle.model.proofs.BoolLaws.{apart}
 
 module _ {A : Type 0} where
   -- an item that passes

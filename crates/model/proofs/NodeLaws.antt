@@ -5,13 +5,12 @@ use mathlib.Core.Path.{_≡_, refl, ap, sym, _∙_, subst}
 use mathlib.Core.Logic.{_⊎_, inl, inr, ⊎-elim}
 use mathlib.Core.Bool.{Bool, true, false}
 use mathlib.Core.Option.{Option, none, some}
-use mathlib.Core.List.{List, [], _∷_, _++_, map, foldr, List·Memᴰ, List·Memᴰ·head, List·Memᴰ·tail, List·Memᴰ·not-nil, List·Memᴰ·cases-cons, List·Memᴰ·append-cases, Memᴰ·append-left, Memᴰ·append-right}
+use mathlib.Core.List.{List, [], _∷_, _++_, map, foldr, List·Memᴰ, List·Memᴰ·not-nil, List·Memᴰ·cases-cons, List·Memᴰ·append-cases, Memᴰ·append-left, Memᴰ·append-right}
 use native.Mathlib.Omega.{arith}
 use native.Mathlib.Nat.{le-refl}
 use lib.ListN.{length, getD}
-use lib.IntN.{ℤ, pos, subℕ, _+ℤ_, _-ℤ_}
+use lib.IntN.{ℤ, pos, _+ℤ_, _-ℤ_}
 use lib.Signed.{leZ}
-use lib.Dec.{leb}
 use borrow.Author.Tests.{leb-true, leb-false}
 use Rattle.model.specs.declared.Delay.{Delay}
 use Rattle.model.specs.declared.Batch.{Batch}
@@ -21,16 +20,18 @@ use Rattle.model.specs.declared.Best.the-variants.{Nothing, Latency}
 use Rattle.model.specs.Common.{count, if_then_else_, eqZ}
 use Rattle.model.specs.Limits.{mostJobs, mostTicks, mostClashes, mostWeight}
 use Rattle.model.specs.Batch.{ticks, delaysOf}
-use Rattle.model.specs.Plan.{start, Keeps, KeepsDelays, KeepsStations, Holds, Valid, finish, latency}
+use Rattle.model.specs.Plan.{start, Keeps, KeepsDelays, Valid, finish, latency}
 use Rattle.model.specs.Clash.{Clash, clashes}
-use Rattle.model.specs.Starts.{rounds, firstStarts, leastStarts}
 use Rattle.model.specs.Search.{Incumbent, Place, noClash, sideOf, turned, inequalities, startsAt, met, firstMet, turnedBack, backTo, back, prunes, becomeBest, branch, visit, next}
-use Rattle.model.proofs.ListLaws.{apart, map-some, some-map}
+use Rattle.model.proofs.BoolLaws.{apart}
+use Rattle.model.proofs.ListLaws.{map-some, some-map}
+use Rattle.model.proofs.SeqLaws.{getD-in}
 use Rattle.model.proofs.PlusLaws.{plus-le, le-plus}
 use Rattle.model.proofs.SideLaws.{side0-apart, side1-apart, sides}
-use Rattle.model.proofs.ClashLaws.{Unmet, apart-unmet, unmet-apart, Listed, clash-listed, eqZ-eq, eqZ-refl}
+use Rattle.model.proofs.ClashLaws.{Unmet, apart-unmet, unmet-apart, Listed, clash-listed}
+use Rattle.model.proofs.DistanceLaws.{eqZ-eq, eqZ-refl}
 use Rattle.model.proofs.StartsLaws.{Inside, least-length, least-keeps, least-below, least-found}
-use Rattle.model.proofs.BackLaws.{flip, Done, Backed, BackTo, back-is, numbers, Present, Pending, Open, pending-done, pending-open, open-append, present-all}
+use Rattle.model.proofs.BackLaws.{BackTo, back-is, numbers, Present, Pending, Open, pending-done, pending-open, open-append, present-all}
 
 -- what the limits say of a batch
 pub record Fits (b : Batch) : Type 0 where
@@ -45,11 +46,6 @@ unfoldable pub Named : Batch → List Turn → Type 0
 Named b ts = (t : Turn) → List·Memᴰ t ts → t .clash < length (clashes b)
 
 -- ---- lists
-
-pub getD-in : {A : Type 0} (xs : List A) (k : ℕ) (d : A) → k < length xs → List·Memᴰ (getD xs k d) xs
-getD-in [] k d h = absurd (omega arith)
-getD-in (x ∷ xs) zero d h = List·Memᴰ·head refl
-getD-in (x ∷ xs) (suc k) d h = List·Memᴰ·tail (getD-in xs k d (omega arith))
 
 largest-mono : (f g : ℕ → ℕ) (xs : List ℕ) → ((x : ℕ) → f x ≤ g x) → foldr max 0 (map f xs) ≤ foldr max 0 (map g xs)
 largest-mono f g [] h = le-refl 0

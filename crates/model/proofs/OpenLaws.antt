@@ -1,51 +1,46 @@
 -- Opening accepts exactly the files of document 01's format whose delays can be met, and yields a sound fresh search. So demands 2 and 3
 -- hold of every file that opens.
-use Prim.Native.Nat.{ℕ, zero, _+_, _-_, _≤_, _<_, min}
+use Prim.Native.Nat.{ℕ, _≤_, min}
 use mathlib.Core.Path.{_≡_, refl, ap, sym, _∙_, subst}
 use mathlib.Core.Logic.{_↔_}
 use mathlib.Core.Bool.{Bool, true, false}
 use mathlib.Core.Option.{Option, none, some}
-use mathlib.Core.List.{List, [], _∷_, _++_, List·Memᴰ}
+use mathlib.Core.List.{List, [], _∷_, _++_}
 use native.Mathlib.Omega.{arith}
 use lib.ListN.{length, take, drop}
 use lib.Seq.{take-at}
-use lib.Dec.{leb}
 use borrow.Author.Tests.{leb-true, le-leb}
 use Rattle.model.specs.declared.Batch.{Batch}
-use Rattle.model.specs.declared.Delay.{Delay}
 use Rattle.model.specs.declared.Best.{Best}
 use Rattle.model.specs.declared.Best.the-variants.{Nothing, Latency}
 use Rattle.model.specs.declared.Search.{Search}
-use Rattle.model.specs.declared.Opening.{Opening}
 use Rattle.model.specs.declared.Opening.the-variants.{Accepted}
 use Rattle.model.specs.declared.Opened.{Opened}
-use Rattle.model.specs.declared.Written.{Written}
 use Rattle.model.specs.declared.Written.the-variants.{Bytes}
-use Rattle.model.specs.declared.Ran.{Ran}
-use Rattle.model.specs.Common.{count, all, isSome, Outcome, refuse, accept, _>>=_, require}
-use Rattle.model.specs.Limits.{mostClashes, mostTotal}
+use Rattle.model.specs.Common.{count, isSome, Outcome, refuse, accept, _>>=_, require}
+use Rattle.model.specs.Limits.{mostClashes}
 use Rattle.model.specs.Batch.{ticks, delaysOf}
 use Rattle.model.specs.Plan.{KeepsDelays, Valid, latency}
 use Rattle.model.specs.Clash.{clashes}
 use Rattle.model.specs.Starts.{leastStarts}
-use Rattle.model.specs.Search.{Place, placeOf, searchOf, freshPlace, freshSearch, nodes, Ends, nodeLimit}
-use Rattle.model.specs.Format.{Within, batchFile, blanked, BatchFile}
-use Rattle.model.specs.Open.{ticksOk, jobsOk, weightOk, fewClashes, delaysMet, readFile, openFile, openedAs, opened}
+use Rattle.model.specs.Search.{placeOf, searchOf, freshPlace, freshSearch, nodes}
+use Rattle.model.specs.Format.{Within, batchFile, BatchFile}
+use Rattle.model.specs.Open.{ticksOk, jobsOk, weightOk, fewClashes, delaysMet, openFile, openedAs, opened}
 use Rattle.model.specs.Sound.{soundBest, sound}
 use Rattle.model.specs.Run.{runRefusal, answerOf, ran}
 use Rattle.model.specs.Text.{planLines, planText, batchText, fitting, writtenAs, written}
-use Rattle.model.specs.Answers.{Verdict, plan, runTold, openTold, bestTold}
+use Rattle.model.specs.Answers.{plan, runTold, openTold, bestTold}
 use Rattle.model.specs.Calls.{Call, call, after, granted}
-use Rattle.model.specs.Demands.{PlanWith, RunLeaves, Demand2, demand2, Demand3, demand3}
-use Rattle.model.proofs.ListLaws.{apart, each-all, count-some}
-use Rattle.model.proofs.OutcomeLaws.{refused, accept-eq}
+use Rattle.model.specs.Demands.{PlanWith, RunLeaves, demand2, demand3}
+use Rattle.model.proofs.BoolLaws.{apart}
+use Rattle.model.proofs.ListLaws.{each-all, count-some}
+use Rattle.model.proofs.OutcomeLaws.{refused}
 use Rattle.model.proofs.StartsLaws.{Inside, least-length, least-keeps, least-found}
-use Rattle.model.proofs.NodeLaws.{Fits}
 use Rattle.model.proofs.GoodLaws.{good-none, ValidBest}
 use Rattle.model.proofs.EndLaws.{End, search-ends, ends-unique, best-valid, nodes-fresh}
 use Rattle.model.proofs.SoundLaws.{Passes, fits, place-sound}
 use Rattle.model.proofs.CallLaws.{after-fresh, lists-reach, at-batch}
-use Rattle.model.proofs.LimitLaws.{LimitsOk, within-limits}
+use Rattle.model.proofs.LimitLaws.{within-limits}
 use Rattle.model.proofs.FileLaws.{read-format, open-read}
 use Rattle.model.proofs.LeaveLaws.{demand-1}
 

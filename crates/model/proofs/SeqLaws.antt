@@ -1,11 +1,13 @@
 -- Lists by index, as loops walk them: the numbers in a row from either end, a list given by what stands at each place, blanks behind a list.
 use mathlib.Core.Path.{_≡_, refl, ap, sym, _∙_}
-use mathlib.Core.List.{List, [], _∷_, _++_, map}
+use mathlib.Core.Bool.{Bool, true, false}
+use mathlib.Core.List.{List, [], _∷_, _++_, map, append-assoc, List·Memᴰ, List·Memᴰ·head, List·Memᴰ·tail}
 use Prim.Native.Nat.{ℕ, zero, suc, _+_, _-_, _≤_, _<_}
 use native.Mathlib.Omega.{arith}
 use native.Mathlib.Numerals.{add-one}
-use lib.ListN.{length, getD, set, replicate, length-replicate, length-append, length-map}
-use Rattle.model.specs.Common.{count, pad}
+use lib.ListN.{length, getD, set, drop, replicate, length-replicate, length-append, length-map}
+use lib.Seq.{set-at}
+use Rattle.model.specs.Common.{count, upTo, pad}
 use Rattle.model.proofs.ListLaws.{count-length}
 
 -- ---- the numbers from k to n − 1
@@ -20,7 +22,7 @@ unfolding count
 count-end k n h = let e : n - k ≡ 0 = omega arith in rw e
 
 -- one more at the end
-count-snoc : (a k : ℕ) → count a (suc k) ≡ count a k ++ ((a + k) ∷ [])
+pub count-snoc : (a k : ℕ) → count a (suc k) ≡ count a k ++ ((a + k) ∷ [])
 unfolding count
 count-snoc a zero = ap (λ (x : ℕ). x ∷ []) (omega arith)
 count-snoc a (suc k) = ap (λ (l : List ℕ). a ∷ l) (count-snoc (suc a) k ∙ ap (λ (x : ℕ). count (suc a) k ++ (x ∷ [])) (omega arith))
@@ -63,6 +65,18 @@ getD-same [] k d e h = absurd (omega arith)
 getD-same (x ∷ l) zero d e h = refl
 getD-same (x ∷ l) (suc k) d e h = getD-same l k d e (omega arith)
 
+-- what is the same of two defaults is the same of what is read
+pub getD-default : {A B : Type 0} (f : A → B) (xs : List A) (i : ℕ) (d e : A) → f d ≡ f e → f (getD xs i d) ≡ f (getD xs i e)
+getD-default f [] i d e h = h
+getD-default f (x ∷ xs) zero d e h = refl
+getD-default f (x ∷ xs) (suc i) d e h = getD-default f xs i d e h
+
+-- what stands in a list is one of its members
+pub getD-in : {A : Type 0} (xs : List A) (k : ℕ) (d : A) → k < length xs → List·Memᴰ (getD xs k d) xs
+getD-in [] k d h = absurd (omega arith)
+getD-in (x ∷ xs) zero d h = List·Memᴰ·head refl
+getD-in (x ∷ xs) (suc k) d h = List·Memᴰ·tail (getD-in xs k d (omega arith))
+
 -- ---- blanks behind a list
 
 pub blanks-at : {A : Type 0} (n i : ℕ) (d : A) → getD (replicate n d) i d ≡ d
@@ -85,13 +99,25 @@ unfolding pad
 pad-length size d l h = length-append l (replicate (size - length l) d) ∙ omega (arith, length-replicate (size - length l) d)
 
 -- the first blank place filled
-pub pad-set : {A : Type 0} (size : ℕ) (d x : A) (l : List A) → length l < size → set (pad size d l) (length l) x ≡ pad size d (l ++ (x ∷ []))
+pub pad-put : {A : Type 0} (n : ℕ) (blank : A) (xs : List A) (k : ℕ) (x : A) → length xs ≡ k → k < n → set (pad n blank xs) k x ≡ pad n blank (xs ++ (x ∷ []))
 unfolding pad
-pad-set size d x [] h = let e : size - 0 ≡ suc (size - 1) = omega arith in rw e
-pad-set {A} size d x (y ∷ l) h =
-    let r = pad-set (size - 1) d x l (omega arith) in
-    ap (λ (m : ℕ). y ∷ set (l ++ replicate m d) (length l) x) (less size (length l)) ∙ ap (λ (k : List A). y ∷ k) r
-    ∙ ap (λ (m : ℕ). y ∷ ((l ++ (x ∷ [])) ++ replicate m d)) (sym (less size (length (l ++ (x ∷ [])))))
+pad-put n blank xs k x e l =
+    let m : n - length xs ≡ suc (n - length (xs ++ (x ∷ []))) = omega (arith, length-append xs (x ∷ [])) in
+    ap (λ (j : ℕ). set (xs ++ replicate j blank) k x) m
+    ∙ set-at xs blank (replicate (n - length (xs ++ (x ∷ []))) blank) x k e
+    ∙ sym (append-assoc xs (x ∷ []) (replicate (n - length (xs ++ (x ∷ []))) blank))
+
+-- ---- the items before the first that fails
+
+-- they and the rest are the list
+pub upTo-drop : {A : Type 0} (f : A → Bool) (xs : List A) → upTo f xs ++ drop (length (upTo f xs)) xs ≡ xs
+unfolding upTo
+upTo-drop f [] = refl
+upTo-drop {A} f (x ∷ xs) = go (f x) (upTo-drop f xs)
   where
-    less : (n k : ℕ) → n - suc k ≡ (n - 1) - k
-    less n k = omega arith
+    part : Bool → List A
+    part p = elim p [ true ↦ x ∷ upTo f xs | false ↦ [] ]
+
+    go : (p : Bool) → upTo f xs ++ drop (length (upTo f xs)) xs ≡ xs → part p ++ drop (length (part p)) (x ∷ xs) ≡ x ∷ xs
+    go true h = ap (λ (l : List A). x ∷ l) h
+    go false h = refl

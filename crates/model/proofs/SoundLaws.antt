@@ -4,8 +4,8 @@ use Prim.Native.Nat.{ℕ, zero, suc, _+_, _-_, _≤_, _<_}
 use mathlib.Core.Path.{_≡_, refl, ap, sym, _∙_, subst}
 use mathlib.Core.Logic.{_⊎_, inl, inr}
 use mathlib.Core.Bool.{Bool, true, false, not, _&&_, _||_}
-use mathlib.Core.Option.{Option, none, some}
-use mathlib.Core.List.{List, [], _∷_, _++_, map, List·Memᴰ, List·Memᴰ·head, List·Memᴰ·tail, List·Memᴰ·not-nil, List·Memᴰ·cases-cons}
+use mathlib.Core.Option.{none, some}
+use mathlib.Core.List.{List, [], _∷_, _++_, List·Memᴰ}
 use native.Mathlib.Omega.{arith}
 use lib.ListN.{length, getD, drop, replicate, length-append, length-replicate, List·getD-append}
 use lib.IntN.{pos, negsuc}
@@ -14,10 +14,7 @@ use lib.Seq.{drop-at}
 use lib.Dec.{leb, ltb, eqb}
 use borrow.Author.Tests.{leb-true, le-leb, ltb-true, lt-ltb, eqb-true, eq-eqb}
 use Rattle.model.specs.declared.Batch.{Batch}
-use Rattle.model.specs.declared.Delay.{Delay}
 use Rattle.model.specs.declared.Turn.{Turn}
-use Rattle.model.specs.declared.Best.{Best}
-use Rattle.model.specs.declared.Best.the-variants.{Nothing, Latency}
 use Rattle.model.specs.declared.Search.{Search}
 use Rattle.model.specs.Common.{between, all, any, count, pad, isEmpty}
 use Rattle.model.specs.Limits.{mostJobs, mostDelays, mostTicks, mostWeight, mostClashes, mostStart, mostLatency, mostTotal}
@@ -27,11 +24,12 @@ use Rattle.model.specs.Clash.{Clash, clashes}
 use Rattle.model.specs.Search.{Incumbent, Place, startsAt, firstMet, becomeBest, next, empty, isTurn, turnsOf, placeOf, searchOf, node, nodesOn, nodes}
 use Rattle.model.specs.Open.{countsOk, ticksOk, jobsOk, weightOk, fewClashes, delaysMet}
 use Rattle.model.specs.Sound.{soundBatch, distinct, soundTurns, soundPath, soundBest, sound}
-use Rattle.model.proofs.ListLaws.{apart, both, and, any-some, some-any, all-each, each-all, some-map, map-some, count-some, some-count}
+use Rattle.model.proofs.BoolLaws.{apart, both, and}
+use Rattle.model.proofs.ListLaws.{any-some, some-any, all-each, each-all, map-some, count-some, some-count}
 use Rattle.model.proofs.StartsLaws.{Different}
 use Rattle.model.proofs.BackLaws.{numbers}
 use Rattle.model.proofs.NodeLaws.{Fits, Named, at-length}
-use Rattle.model.proofs.GoodLaws.{GoodTurns, good-named, good-length, Good, Step, step-next}
+use Rattle.model.proofs.GoodLaws.{GoodTurns, good-named, good-length, Good, step-next}
 use Rattle.model.proofs.BoundLaws.{starts-bound, latency-bound}
 use Rattle.model.proofs.EndLaws.{turns-path, nodes-ended, At}
 

@@ -1,16 +1,15 @@
 -- Least starts: they keep the inequalities, no solution has a smaller start, and they exist where there is a solution.
-use Prim.Native.Nat.{ℕ, zero, suc, _+_, _-_, _≤_, _<_, max, pred}
+use Prim.Native.Nat.{ℕ, zero, suc, _+_, _≤_, _<_, max, pred}
 use mathlib.Core.Path.{_≡_, refl, ap, ap₂, sym, _∙_, subst}
 use mathlib.Core.Logic.{_⊎_, inl, inr}
-use mathlib.Core.Bool.{Bool, true, false, not, _&&_}
-use mathlib.Core.Option.{Option, none, some}
+use mathlib.Core.Bool.{Bool, true, false, _&&_}
+use mathlib.Core.Option.{none, some}
 use mathlib.Core.List.{List, [], _∷_, map, List·Memᴰ, List·Memᴰ·head, List·Memᴰ·tail, List·Memᴰ·not-nil, List·Memᴰ·cases-cons, List·Memᴰ·eq-of-singleton}
 use native.Mathlib.Omega.{arith}
-use native.Mathlib.Nat.{le-refl, le-trans, le-of-eq}
+use native.Mathlib.Nat.{le-refl, le-of-eq}
 use native.Mathlib.Decide.{decLt, decLe}
-use lib.IntN.{ℤ}
-use lib.ListN.{length, getD, replicate, length-map, length-replicate, List·getD-eq-default}
-use lib.Dec.{eqb, ltb}
+use lib.ListN.{length, getD, length-map, length-replicate, List·getD-eq-default}
+use lib.Dec.{eqb}
 use lib.Seq.{ext-getD}
 use borrow.Author.Tests.{eqb-true, eqb-false, eq-eqb}
 use Rattle.model.specs.Common.{count, if_then_else_}
@@ -18,7 +17,9 @@ use Rattle.model.specs.declared.Delay.{Delay}
 use Rattle.model.specs.Plan.{start, Keeps}
 use Rattle.model.specs.Starts.{plus, raised, rounds, same, firstStarts, leastStarts}
 use Rattle.model.proofs.PlusLaws.{plus-mono, plus-shift, plus-le, le-plus}
-use Rattle.model.proofs.ListLaws.{apart, count-length}
+use Rattle.model.proofs.BoolLaws.{apart}
+use Rattle.model.proofs.ListLaws.{count-length}
+use Rattle.model.proofs.SeqLaws.{blanks-at}
 
 -- ---- one round
 
@@ -314,7 +315,8 @@ module _ (qs : List Delay) (first : List ℕ) where
 
 -- ---- least starts
 
-same-eq : (xs ys : List ℕ) → same xs ys ≡ true → xs ≡ ys
+-- the test for the same starts
+pub same-eq : (xs ys : List ℕ) → same xs ys ≡ true → xs ≡ ys
 unfolding same
 same-eq [] [] e = refl
 same-eq [] (y ∷ ys) e = apart e
@@ -325,19 +327,14 @@ same-eq (x ∷ xs) (y ∷ ys) e = go (eqb x y) refl e (same-eq xs ys)
     go true h e rec = ap₂ (λ (a : ℕ) (l : List ℕ). a ∷ l) (eqb-true x y h) (rec e)
     go false h e rec = apart e
 
-same-refl : (xs : List ℕ) → same xs xs ≡ true
+pub same-refl : (xs : List ℕ) → same xs xs ≡ true
 unfolding same
 same-refl [] = refl
 same-refl (x ∷ xs) = rw (eq-eqb x x refl, same-refl xs)
 
-zeros : (n j : ℕ) → _≡_ {A = ℕ} (getD (replicate n 0) j 0) 0
-zeros zero j = refl
-zeros (suc n) zero = refl
-zeros (suc n) (suc j) = zeros n j
-
 pub first-zero : (n j : ℕ) → getD (firstStarts n) j 0 ≡ 0
 unfolding firstStarts
-first-zero n j = zeros n j
+first-zero n j = blanks-at n j 0
 
 first-length : (n : ℕ) → length (firstStarts n) ≡ n
 unfolding firstStarts

@@ -1,5 +1,6 @@
-// The types that every room shares, and the record that an accepted opening starts from.
+// The types that every room shares, small numbers as indices, and the record that an accepted opening starts from.
 ghost use mathlib.Core.Path.{_≡_};
+ghost use Prim.Native.Nat.{_<_};
 ghost use Rattle.model.specs.Search.{freshSearch};
 
 // A delay: `to` starts at least `weight` ticks after `from`.
@@ -98,4 +99,18 @@ pub fn fresh(batch: Batch) -> Search
         total: 0,
         ended: false,
     }
+}
+
+// A small number as an index.
+pub fn wide(x: u8) -> usize
+    ensures { λ r. ⌜ r ≡ x ⌝ }
+{
+    x as usize
+}
+
+// A two-byte number as an index.
+pub fn wide16(x: u16) -> usize
+    ensures { λ r. ⌜ (r ≡ x) × (r < 65536) ⌝ }
+{
+    x as usize
 }

@@ -10,7 +10,7 @@ use lib.Seq.{ext-getD}
 use lib.Dec.{eqb}
 use borrow.Author.Tests.{eqb-true, eq-eqb, ne-eqb}
 use Rattle.model.specs.Open.{at as byteOf, wide as wideOf, frameIs}
-use Rattle.model.proofs.ListLaws.{both}
+use Rattle.model.proofs.BoolLaws.{both}
 use Rattle.lines.specs.Read.{byteAt}
 use Rattle.lines.proofs.Framed.{Framed}
 use Rattle.opening.specs.Frame.{frameAt, Inside}

@@ -10,7 +10,8 @@ use Rattle.model.specs.Open.{at as byteOf, wide as wideOf, frameIs, jobsOk, wei
 use Rattle.model.proofs.OutcomeLaws.{accepts-require}
 use Rattle.opening.specs.declared.delay.DelayFrame.the-variants.{Found, Refused}
 use Rattle.opening.specs.Frame.{delayTold}
-use Rattle.opening.proofs.Tests.{refuses-require, passes, fails}
+use Rattle.model.proofs.BoolLaws.{passes, fails}
+use Rattle.opening.proofs.Tests.{refuses-require}
 
 -- the delay of a frame's bytes
 pub delay-is : (f : List ℕ) (i j v : ℕ) (w : ℤ) → i ≡ byteOf f 1 → j ≡ byteOf f 2 → v ≡ wideOf f 3 → w ≡ signed v → _≡_ {A = Delay} (record { from = i; to = j; weight = w }) (delayIn f)

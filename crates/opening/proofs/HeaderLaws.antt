@@ -9,7 +9,8 @@ use Rattle.model.specs.Open.{at as byteOf, frameIs, countsOk, header}
 use Rattle.model.proofs.OutcomeLaws.{accepts-require}
 use Rattle.opening.specs.declared.header.Header.the-variants.{Counts, Refused}
 use Rattle.opening.specs.Frame.{headerTold}
-use Rattle.opening.proofs.Tests.{refuses-require, passes, fails}
+use Rattle.model.proofs.BoolLaws.{passes, fails}
+use Rattle.opening.proofs.Tests.{refuses-require}
 
 -- by what the code asks of the kind and the length, the edition, n and m
 module _ (f : List ℕ) (whole : Bool) (is : whole ≡ frameIs 0xA0 4 f) where

@@ -1,6 +1,6 @@
 -- What is read of a job's frame, by the tests that it passes and the first that it fails.
 use Prim.Native.Nat.{ℕ, _+_, _*_, _<_}
-use mathlib.Core.Path.{_≡_, refl, ap, ap₂, sym, _∙_}
+use mathlib.Core.Path.{_≡_, ap, ap₂, sym, _∙_}
 use mathlib.Core.Bool.{Bool, true, false, not, _&&_}
 use mathlib.Core.List.{List}
 use native.Mathlib.Omega.{arith}
@@ -14,17 +14,14 @@ use Rattle.model.proofs.OutcomeLaws.{accepts-require}
 use Rattle.opening.specs.declared.job.JobFrame.{JobFrame}
 use Rattle.opening.specs.Answer.{answerOf, valueOf}
 use Rattle.opening.specs.Frame.{jobTold}
-use Rattle.opening.proofs.Tests.{refuses-require, passes, fails}
+use Rattle.model.proofs.BoolLaws.{and-false, passes, fails}
+use Rattle.opening.proofs.Tests.{refuses-require}
 
 -- a frame of one byte is too short for any p
 pub job-short : (f : List ℕ) (r : JobFrame) → length f < 2 → r ≡ jobTold (refuse 2) → r ≡ jobTold (job f)
 unfolding job frameIs
 job-short f r l e =
     e ∙ ap jobTold (sym (refuses-require 2 _ (ap (λ (t : Bool). eqb (byteOf f 0) 0xA1 && t) (ne-eqb (length f) (2 + 2 * byteOf f 1) (λ (n : length f ≡ 2 + 2 * byteOf f 1). omega arith)) ∙ and-false (eqb (byteOf f 0) 0xA1))))
-  where
-    and-false : (t : Bool) → (t && false) ≡ false
-    and-false true = refl
-    and-false false = refl
 
 -- by p, and by what the code asks of the kind and the length
 module _ (f : List ℕ) (p size : ℕ) (read : p ≡ byteOf f 1) (sized : size ≡ 2 + 2 * p) (whole : Bool) (is : whole ≡ frameIs 0xA1 size f) where

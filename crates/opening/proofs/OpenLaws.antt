@@ -15,7 +15,8 @@ use Rattle.model.proofs.LimitLaws.{limits-within}
 use Rattle.model.proofs.FileLaws.{read-limits}
 use Rattle.opening.specs.declared.batch.BatchRead.{BatchRead}
 use Rattle.opening.specs.Read.{batchTold}
-use Rattle.opening.proofs.Tests.{refuses-require, refuses-bind, passes, fails}
+use Rattle.model.proofs.BoolLaws.{passes, fails}
+use Rattle.opening.proofs.Tests.{refuses-require, refuses-bind}
 use Rattle.opening.proofs.Told.{batch-refused, batch-accepted}
 
 -- by what `read_batch` answers

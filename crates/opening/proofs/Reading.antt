@@ -9,7 +9,8 @@ use Rattle.model.specs.Common.{pad, Outcome, refuse, accept, _>>=_}
 use Rattle.model.specs.Open.{readOne, readAll}
 use Rattle.model.proofs.OutcomeLaws.{accepts-bind}
 use Rattle.opening.proofs.Tests.{refuses-bind}
-use Rattle.opening.proofs.Pad.{pad-nil, pad-put}
+use Rattle.model.proofs.SeqLaws.{pad-put}
+use Rattle.opening.proofs.Pad.{pad-nil}
 
 module _ {A : Type 0} where
   -- what is read from a place, put behind what has been read

@@ -1,14 +1,14 @@
 -- The record's path put together place by place, and taken apart again.
-use Prim.Native.Nat.{ℕ, zero, suc, _+_, _-_, _*_, _/_, _%_, _≤_, _<_}
+use Prim.Native.Nat.{ℕ, _+_, _≤_, _<_}
 use mathlib.Core.Path.{_≡_, refl, ap, sym, _∙_}
-use mathlib.Core.List.{List, [], _∷_, _++_, map}
+use mathlib.Core.List.{List}
 use native.Mathlib.Omega.{arith}
 use native.Mathlib.Numerals.{add-one}
 use lib.ListN.{length, getD, set, replicate}
 use Rattle.model.specs.declared.Turn.{Turn}
 use Rattle.model.specs.Common.{count, pad}
 use Rattle.model.specs.Search.{empty}
-use Rattle.model.proofs.SeqLaws.{listed-length, pad-set}
+use Rattle.model.proofs.SeqLaws.{listed-length, pad-put}
 use Rattle.search.specs.Walk.{turnOf, turnsIn}
 use Rattle.search.proofs.BackLaws.{turns-more}
 
@@ -23,10 +23,9 @@ path-none turns = refl
 -- one turn more
 pub path-more : (turns : List ℕ) (path : List Turn) (k x : ℕ) → k < 1024 → x ≡ getD turns k 0 → path ≡ pad 1024 empty (turnsIn turns k) → set path k (turnOf x) ≡ pad 1024 empty (turnsIn turns (k + 1))
 path-more turns path k x h e p =
-    let l = turns-length turns k in
     let q : turnOf x ≡ turnOf (getD turns k 0) = ap turnOf e in
     rw (p, q)
-    (ap (λ (i : ℕ). set (pad 1024 empty (turnsIn turns k)) i (turnOf (getD turns k 0))) (sym l) ∙ pad-set 1024 empty (turnOf (getD turns k 0)) (turnsIn turns k) (omega arith)
+    (pad-put 1024 empty (turnsIn turns k) k (turnOf (getD turns k 0)) (turns-length turns k) h
     ∙ ap (pad 1024 empty) (sym (ap (turnsIn turns) (add-one k) ∙ turns-more turns k)))
 
 pub path-all : (turns : List ℕ) (path : List Turn) (k depth : ℕ) → k ≤ depth → depth ≤ k → path ≡ pad 1024 empty (turnsIn turns k) → path ≡ pad 1024 empty (turnsIn turns depth)

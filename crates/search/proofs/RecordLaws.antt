@@ -1,28 +1,27 @@
 -- A sound record and the arrays that a run works on: the path's turns as numbers stand for the record's place, and the record can be put
 -- together again from its place.
-use Prim.Native.Nat.{ℕ, zero, suc, _+_, _-_, _*_, _/_, _%_, _≤_, _<_}
-use mathlib.Core.Path.{_≡_, refl, ap, ap₂, sym, _∙_, subst}
-use mathlib.Core.Bool.{Bool, true, false, not, _&&_, _||_}
+use Prim.Native.Nat.{ℕ, _+_, _-_, _*_, _/_, _%_, _≤_, _<_}
+use mathlib.Core.Path.{_≡_, refl, ap, ap₂, sym, _∙_}
+use mathlib.Core.Bool.{Bool, true, false, not, _&&_}
 use mathlib.Core.List.{List, [], _∷_, _++_, map, List·Memᴰ, List·Memᴰ·head, List·Memᴰ·tail}
 use native.Mathlib.Omega.{arith}
 use lib.ListN.{length, getD, drop, replicate, length-append}
 use lib.Seq.{ext-getD}
 use lib.Dec.{eqb, leb}
 use borrow.Author.Tests.{eqb-true}
-use Rattle.model.specs.declared.Batch.{Batch}
 use Rattle.model.specs.declared.Turn.{Turn}
 use Rattle.model.specs.declared.Search.{Search}
-use Rattle.model.specs.Common.{all, upTo, pad}
+use Rattle.model.specs.Common.{all, pad}
 use Rattle.model.specs.Clash.{clashes}
-use Rattle.model.specs.Search.{Place, empty, isTurn, turnsOf, placeOf, searchOf}
+use Rattle.model.specs.Search.{empty, isTurn, turnsOf, placeOf, searchOf}
 use Rattle.model.specs.Sound.{soundTurns, soundPath, soundBest, soundBatch, sound}
 use Rattle.model.specs.Limits.{mostTotal, mostClashes}
-use Rattle.model.proofs.ListLaws.{apart, both, all-each}
-use Rattle.model.proofs.SeqLaws.{listed-at, listed-length}
-use Rattle.model.proofs.NodeLaws.{getD-in, Named}
+use Rattle.model.proofs.BoolLaws.{apart, both}
+use Rattle.model.proofs.ListLaws.{all-each}
+use Rattle.model.proofs.SeqLaws.{listed-at, listed-length, getD-in, upTo-drop}
+use Rattle.model.proofs.NodeLaws.{Named}
 use Rattle.model.proofs.GoodLaws.{GoodTurns, good-named, good-length}
-use Rattle.model.proofs.SoundLaws.{Passes, record-passes, fits, sound-at, place-sound}
-use Rattle.search.specs.declared.node.Walk.{Walk}
+use Rattle.model.proofs.SoundLaws.{record-passes, fits, sound-at, place-sound}
 use Rattle.search.specs.Walk.{turnOf, turnsIn, Path, placeAt}
 
 -- ---- the path of a sound record is its turns and then empty places
@@ -44,18 +43,6 @@ all-empty (t ∷ ts) e =
     rest : all (λ t. not (isTurn t)) (t ∷ ts) ≡ true → all (λ t. not (isTurn t)) ts ≡ true
     rest e = Rattle.model.proofs.ListLaws.each-all (λ t. not (isTurn t)) ts (λ u m. all-each (λ t. not (isTurn t)) (t ∷ ts) e (List·Memᴰ·tail m))
 
-front-rest : (f : Turn → Bool) (xs : List Turn) → upTo f xs ++ drop (length (upTo f xs)) xs ≡ xs
-unfolding upTo
-front-rest f [] = refl
-front-rest f (x ∷ xs) = go (f x) (front-rest f xs)
-  where
-    part : Bool → List Turn
-    part p = elim p [ true ↦ x ∷ upTo f xs | false ↦ [] ]
-
-    go : (p : Bool) → upTo f xs ++ drop (length (upTo f xs)) xs ≡ xs → part p ++ drop (length (part p)) (x ∷ xs) ≡ x ∷ xs
-    go true h = ap (λ (l : List Turn). x ∷ l) h
-    go false h = refl
-
 rest-empty : (s : Search) → sound s ≡ true → all (λ t. not (isTurn t)) (drop (length (turnsOf (s .path))) (s .path)) ≡ true
 unfolding sound soundPath
 rest-empty s e =
@@ -69,7 +56,7 @@ unfolding pad turnsOf
 path-back s e l =
     let r = drop (length (turnsOf (s .path))) (s .path) in
     let k = all-empty r (rest-empty s e) in
-    let w = front-rest isTurn (s .path) in
+    let w = upTo-drop isTurn (s .path) in
     let n : length r ≡ 1024 - length (turnsOf (s .path)) = omega (arith, l, ap length w, length-append (turnsOf (s .path)) r) in
     ap (λ (m : ℕ). turnsOf (s .path) ++ replicate m empty) (sym n) ∙ ap (λ (x : List Turn). turnsOf (s .path) ++ x) (sym k) ∙ w
 

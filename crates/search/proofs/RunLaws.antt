@@ -6,7 +6,7 @@ use mathlib.Core.List.{List}
 use native.Mathlib.Omega.{arith}
 use lib.ListN.{length}
 use lib.Dec.{leb, ltb}
-use borrow.Author.Tests.{le-leb, leb-true, ltb-true, ltb-false}
+use borrow.Author.Tests.{le-leb, lt-leb, leb-true, ltb-true, ltb-false}
 use Rattle.model.specs.declared.Batch.{Batch}
 use Rattle.model.specs.declared.Search.{Search}
 use Rattle.model.specs.declared.Answer.{Answer}
@@ -21,13 +21,6 @@ use Rattle.model.proofs.LeaveLaws.{nodes-batch}
 use Rattle.model.proofs.SoundLaws.{fits, record-passes}
 use Rattle.search.proofs.NodesLaws.{nodes-over}
 use Rattle.model.specs.Run.{runRefusal, answerOf, startsAfter, answered, ranAs, ran}
-
-not-le : (x y : ℕ) → y < x → leb x y ≡ false
-not-le x y h = go (leb x y) refl
-  where
-    go : (p : Bool) → leb x y ≡ p → p ≡ false
-    go true e = absurd (omega (arith, leb-true x y e))
-    go false e = refl
 
 -- the tests of the table, in turn
 tests : Bool → Bool → Bool → Bool → Outcome (Unit {0})
@@ -52,7 +45,7 @@ module _ (s : Search) (budget : ℕ) (list : List ℕ) where
 
   pub ran-11 : mostBudget < budget → LeftAs 11
   unfolding tests _>>=_ require
-  ran-11 h = refused 11 (tested false _ _ _ (not-le budget mostBudget h) refl refl refl)
+  ran-11 h = refused 11 (tested false _ _ _ (lt-leb budget mostBudget h) refl refl refl)
 
   pub ran-12 : budget ≤ mostBudget → sound s ≡ false → LeftAs 12
   unfolding tests _>>=_ require
@@ -60,7 +53,7 @@ module _ (s : Search) (budget : ℕ) (list : List ℕ) where
 
   pub ran-13 : budget ≤ mostBudget → sound s ≡ true → length list < s .batch .n → LeftAs 13
   unfolding tests _>>=_ require
-  ran-13 h e l = refused 13 (tested true true false _ (le-leb budget mostBudget h) e (not-le (s .batch .n) (length list) l) refl)
+  ran-13 h e l = refused 13 (tested true true false _ (le-leb budget mostBudget h) e (lt-leb (s .batch .n) (length list) l) refl)
 
   pub ran-14 : budget ≤ mostBudget → sound s ≡ true → s .batch .n ≤ length list → (p : Bool) → not p ≡ (s .ended || leb (s .total + budget) mostTotal) → p ≡ true → LeftAs 14
   unfolding tests _>>=_ require
@@ -87,7 +80,7 @@ pub drawn : (ended : Bool) (total budget : ℕ) → ended ≡ false → budget �
 drawn ended total budget e h = go (ltb (100000000 - budget) total) refl ∙ ap (λ (p : Bool). p || leb (total + budget) 100000000) (sym e)
   where
     go : (p : Bool) → ltb (100000000 - budget) total ≡ p → not p ≡ leb (total + budget) 100000000
-    go true f = sym (not-le (total + budget) 100000000 (omega (arith, ltb-true (100000000 - budget) total f)))
+    go true f = sym (lt-leb (total + budget) 100000000 (omega (arith, ltb-true (100000000 - budget) total f)))
     go false f = sym (le-leb (total + budget) 100000000 (omega (arith, ltb-false (100000000 - budget) total f)))
 
 -- a search that has not ended has room for the budget

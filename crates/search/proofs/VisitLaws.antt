@@ -17,6 +17,7 @@ use Rattle.model.specs.Batch.{ticks}
 use Rattle.model.specs.Plan.{latency}
 use Rattle.model.specs.Clash.{clashes}
 use Rattle.model.specs.Search.{Place, Incumbent, startsAt, firstMet, back, prunes, becomeBest, branch, visit, next}
+use Rattle.model.proofs.BoolLaws.{apart}
 use Rattle.model.proofs.SeqLaws.{pad-at}
 use Rattle.model.proofs.GoodLaws.{good-room}
 use Rattle.model.proofs.NodeLaws.{met-first, met-new}
@@ -50,13 +51,13 @@ pub record Found (o : Option (List ℕ)) (starts : List ℕ) : Type 0 where
 
 found-some : (o : Option (List ℕ)) (r : Least) → r ≡ leastAs o → r .found ≡ true → Found o (r .starts)
 unfolding leastAs
-found-some none r e h = Rattle.model.proofs.ListLaws.apart (sym (ap (λ (l : Least). l .found) e) ∙ h)
+found-some none r e h = apart (sym (ap (λ (l : Least). l .found) e) ∙ h)
 found-some (some ss) r e h = record { ss = ss; is = refl; held = ap (λ (l : Least). l .starts) e }
 
 found-none : (o : Option (List ℕ)) (r : Least) → r ≡ leastAs o → r .found ≡ false → o ≡ none
 unfolding leastAs
 found-none none r e h = refl
-found-none (some ss) r e h = Rattle.model.proofs.ListLaws.apart (sym h ∙ ap (λ (l : Least). l .found) e)
+found-none (some ss) r e h = apart (sym h ∙ ap (λ (l : Least). l .found) e)
 
 met-none : (o : Option ℕ) → metOf o ≡ seen.Nothing → o ≡ none
 unfolding metOf

@@ -1,43 +1,35 @@
 -- What the arrays of a run say once they stand for a batch and a sound place: what the callees of a node ask, and what they answer.
-use Prim.Native.Nat.{ℕ, zero, suc, _+_, _-_, _*_, _/_, _%_, _≤_, _<_}
+use Prim.Native.Nat.{ℕ, suc, _-_, _/_, _%_, _≤_, _<_}
 use mathlib.Core.Path.{_≡_, refl, ap, sym, _∙_, subst}
 use mathlib.Core.Bool.{Bool, true, false, cond}
-use mathlib.Core.List.{List, [], _∷_, _++_, map, List·Memᴰ}
-use mathlib.Core.Option.{Option, none, some}
+use mathlib.Core.List.{List, List·Memᴰ}
 use native.Mathlib.Omega.{arith}
 use lib.ListN.{length, getD}
 use lib.IntN.{ℤ, pos, negsuc, subℕ}
 use lib.Signed.{_≤ℤ_}
-use lib.Dec.{leb, ltb, le→leb}
-use borrow.Author.Tests.{leb-true, ltb-true, ltb-false}
+use lib.Dec.{ltb, le→leb}
+use borrow.Author.Tests.{ltb-false}
 use Rattle.model.specs.declared.Batch.{Batch}
 use Rattle.model.specs.declared.Turn.{Turn}
-use Rattle.model.specs.Common.{count, between, pad}
+use Rattle.model.specs.Common.{count}
 use Rattle.model.specs.Limits.{mostClashes}
-use Rattle.model.specs.Clash.{Clash, clashes}
-use Rattle.model.specs.Open.{countsOk, fewClashes}
-use Rattle.model.specs.Search.{Place, noClash, empty, startsAt, placeOf, searchOf, turnsOf}
-use Rattle.model.specs.Sound.{sound}
-use Rattle.model.proofs.ListLaws.{both, each-item, some-map}
-use Rattle.model.proofs.SeqLaws.{listed-at, listed-length}
-use Rattle.model.proofs.BackLaws.{numbers}
+use Rattle.model.specs.Clash.{clashes}
+use Rattle.model.specs.Search.{Place, noClash, empty, startsAt, placeOf, searchOf}
+use Rattle.model.proofs.ListLaws.{each-item}
+use Rattle.model.proofs.SeqLaws.{listed-at, getD-in}
+use Rattle.model.proofs.LimitLaws.{counts-iff}
 use Rattle.model.proofs.GoodLaws.{GoodTurns, Good, good-named}
-use Rattle.model.proofs.NodeLaws.{Fits, Named, getD-in}
-use Rattle.model.proofs.EndLaws.{turns-path, At}
-use Rattle.model.proofs.SoundLaws.{Passes, record-passes, passes-fit, fits, SoundBest, sound-new, SoundAt, sound-at}
+use Rattle.model.proofs.NodeLaws.{Named}
+use Rattle.model.proofs.EndLaws.{turns-path}
+use Rattle.model.proofs.SoundLaws.{Passes, record-passes, fits, SoundBest, sound-new, sound-at}
 use Rattle.clashes.specs.declared.Clashes.{Clashes}
-use Rattle.clashes.specs.Code.{codeOf, lift}
-use Rattle.clashes.specs.List.{Tabled, listOf}
-use Rattle.clashes.specs.First.{Known}
-use Rattle.clashes.proofs.CodeLaws.{Ranged}
+use Rattle.clashes.specs.List.{Tabled}
 use Rattle.clashes.proofs.LimitLaws.{tabled}
-use Rattle.clashes.proofs.ListedLaws.{ranged-at, listed-at as clash-listed-at, list-count, list-code, list-fits, list-known}
-use Rattle.clashes.proofs.ClashLaws.{Listed}
+use Rattle.clashes.proofs.ListedLaws.{ranged-at, listed-at as clash-listed-at, list-code}
 use Rattle.starts.specs.declared.delays.Delays.{Delays}
 use Rattle.starts.specs.declared.Least.{Least}
-use Rattle.starts.specs.Code.{clashCode, shifted, ClashFits}
+use Rattle.starts.specs.Code.{ClashFits}
 use Rattle.starts.specs.Table.{DelaysFit, TurnsFit}
-use Rattle.starts.specs.Delays.{delaysRead}
 use Rattle.starts.specs.Least.{leastOf, leastAs, HoldsDelays, HoldsTurns}
 use Rattle.starts.proofs.Law.{delays-fit, turns-fit, least-law}
 use Rattle.starts.proofs.SoundLaws.{holds-read}
@@ -47,15 +39,7 @@ use Rattle.search.specs.Walk.{turnOf, turnsIn, Path, placeAt}
 use Rattle.search.specs.Kit.{Works}
 use Rattle.search.proofs.PathLaws.{turns-length}
 
--- ---- clash codes
-
-code-same : (c : Clash) → clashCode c ≡ codeOf c
-unfolding clashCode codeOf shifted lift
-code-same c = ap (λ (d : ℕ). c .i * 1024 + c .j * 32 + d) (go (c .d))
-  where
-    go : (d : ℤ) → shifted d ≡ lift d
-    go (pos k) = refl
-    go (negsuc k) = refl
+-- ---- distances
 
 -- k − 15 for k below 31 is −15 to 15
 near : (k : ℕ) → k < 31 → (negsuc 14 ≤ℤ subℕ k 15) × (subℕ k 15 ≤ℤ pos 15)
@@ -96,11 +80,7 @@ module _ (b : Batch) (sizes : Sizes) (from to code ticks codes turns : List ℕ)
   good-turns = good .turns
 
   pub counts : (1 ≤ b .n) × (b .n ≤ 24) × (b .m ≤ 128)
-  unfolding countsOk between
-  counts =
-      let r = both (between 1 (b .n) 24) (leb (b .m) 128) (passes .counts) in
-      let s = both (leb 1 (b .n)) (leb (b .n) 24) (r .0) in
-      (leb-true 1 (b .n) (s .0), leb-true (b .n) 24 (s .1), leb-true (b .m) 128 (r .1))
+  counts = let r = counts-iff (b .n) (b .m) .0 (passes .counts) in (r .0 .0, r .0 .1, r .1)
 
   pub tables : Tabled b
   tables = tabled b (passes .counts) (passes .ticks-each)
@@ -155,7 +135,7 @@ module _ (b : Batch) (sizes : Sizes) (from to code ticks codes turns : List ℕ)
         turn = λ k h. omega (arith, clash-of k (omega arith), side-of k (omega arith));
         side = λ k h. omega (arith, side-of k (omega arith));
         clash = λ k h. omega (arith, clash-of k (omega arith), w .path .small k (omega arith));
-        code = λ k h. list-code b list (w .listed) few _ (named k (omega arith)) ∙ sym (code-same (getD (clashes b) (getD (turnsIn turns (walk .depth)) k empty .clash) noClash));
+        code = λ k h. list-code b list (w .listed) few _ (named k (omega arith));
         fits = λ k h. clash-fits _ (named k (omega arith));
       }
 

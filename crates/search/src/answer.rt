@@ -2,6 +2,7 @@
 use model::Answer;
 use model::Best;
 use model::Search;
+use model::wide;
 ghost use mathlib.Core.Path.{_≡_};
 ghost use mathlib.Core.List.{_++_};
 ghost use Prim.Native.Nat.{_≤_};
@@ -18,12 +19,6 @@ fn give_starts(starts: [u16; 24], n: usize, list: &mut [u16])
         list[k] = starts[k];
         k = k + 1;
     }
-}
-
-pub fn wide(x: u8) -> usize
-    ensures { λ r. ⌜ r ≡ x ⌝ }
-{
-    x as usize
 }
 
 // Spent when the search has not ended, a plan when it has ended with a best, no plan when it has ended without.

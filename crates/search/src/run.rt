@@ -1,6 +1,5 @@
 // A run: refusals 11 to 14 in turn, then nodes until the search has ended or the budget is used, and the answer.
 use crate::answer::answered;
-use crate::answer::wide;
 use crate::node::Sizes;
 use crate::node::Walk;
 use crate::nodes::Walked;
@@ -11,6 +10,7 @@ use model::Batch;
 use model::Ran;
 use model::Search;
 use model::Tally;
+use model::wide;
 use soundness::Examined;
 use soundness::examine;
 ghost use mathlib.Core.Path.{_≡_};

@@ -1,12 +1,12 @@
 -- Every number below n passes a test: how a loop over k settles it. What is left, the numbers from k on, decides the whole.
-use Prim.Native.Nat.{ℕ, suc, _+_, _-_, _≤_, _<_}
-use mathlib.Core.Path.{_≡_, refl, sym, _∙_}
+use Prim.Native.Nat.{ℕ, _+_, _-_, _≤_, _<_}
+use mathlib.Core.Path.{_≡_, refl, ap, sym, _∙_}
 use mathlib.Core.Bool.{Bool, true, false, _&&_}
 use mathlib.Core.List.{List, [], _∷_, map}
-use native.Mathlib.Numerals.{add-one}
 use native.Mathlib.Omega.{arith}
 use Rattle.model.specs.Common.{all, count}
-use Rattle.soundness.proofs.BoolLaws.{and-false}
+use Rattle.model.proofs.SeqLaws.{count-more, count-end}
+use Rattle.model.proofs.BoolLaws.{and-false}
 
 -- the numbers from k to n − 1 pass
 unfoldable pub allFrom : (ℕ → Bool) → ℕ → ℕ → Bool
@@ -17,8 +17,8 @@ unfolding allFrom
 all-start f n = let e : n - 0 ≡ n = omega arith in rw e
 
 all-step : (f : ℕ → Bool) (k n : ℕ) → k < n → allFrom f k n ≡ all f (k ∷ count (k + 1) (n - (k + 1)))
-unfolding allFrom count
-all-step f k n h = let e : n - k ≡ suc (n - (k + 1)) = omega arith in rw (e, add-one k)
+unfolding allFrom
+all-step f k n h = ap (all f) (count-more k n h)
 
 module _ (f : ℕ → Bool) (k n : ℕ) (r : Bool) (left : allFrom f k n ≡ r) where
   pub all-passed : k < n → f k ≡ true → allFrom f (k + 1) n ≡ r
@@ -30,8 +30,8 @@ module _ (f : ℕ → Bool) (k n : ℕ) (r : Bool) (left : allFrom f k n ≡ r) 
   all-failed h e = rw (e, all) at (sym (all-step f k n h) ∙ left)
 
   pub all-ended : n ≤ k → true ≡ r
-  unfolding allFrom all count
-  all-ended h = let e : n - k ≡ 0 = omega arith in rw e at left
+  unfolding allFrom all
+  all-ended h = rw (count-end k n h) at left
 
 -- two tests of every item of a list, made in one pass over its numbers
 pub all-both : {A : Type 0} (f g : A → Bool) (item : ℕ → A) (ks : List ℕ) → all (λ k. f (item k) && g (item k)) ks ≡ (all f (map item ks) && all g (map item ks))

@@ -6,13 +6,12 @@ use Rattle.model.specs.declared.Batch.{Batch}
 use Rattle.model.specs.Common.{all, count}
 use Rattle.model.specs.Batch.{ticks, delaysOf}
 use Rattle.model.specs.Open.{countsOk, ticksOk, jobsOk, weightOk}
-use Rattle.model.proofs.ListLaws.{both}
+use Rattle.model.proofs.BoolLaws.{both, passes}
 use Rattle.clashes.specs.List.{Tabled}
 use Rattle.clashes.proofs.LimitLaws.{tabled}
 use Rattle.starts.specs.Delays.{Readable, DelaysSound}
 use Rattle.starts.proofs.SoundLaws.{readable}
 use Rattle.soundness.specs.Limits.{ticksPass, delaysPass, limitsPass}
-use Rattle.soundness.proofs.BoolLaws.{test-passed}
 use Rattle.soundness.proofs.LimitLaws.{few-jobs, some-jobs, few-delays}
 
 -- what the tests give, one by one
@@ -26,7 +25,7 @@ module _ (b : Batch) (x : Bool) (p : x ≡ limitsPass b) (e : not x ≡ false) w
   limits : Limits b
   unfolding limitsPass ticksPass delaysPass
   limits =
-      let f = both (countsOk (b .n) (b .m) && ticksPass b) (delaysPass b) (test-passed x (limitsPass b) p e) in
+      let f = both (countsOk (b .n) (b .m) && ticksPass b) (delaysPass b) (passes p e) in
       let g = both (countsOk (b .n) (b .m)) (ticksPass b) (f .0) in
       let h = both (all (jobsOk (b .n)) (delaysOf b)) (all weightOk (delaysOf b)) (f .1) in
       record { counts = g .0; ticks-each = g .1; jobs-each = h .0; weights-each = h .1 }

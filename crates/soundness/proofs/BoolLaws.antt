@@ -1,7 +1,6 @@
 -- Tests joined by &&, as the code joins them: the first test decides, or the second does.
 use mathlib.Core.Path.{_≡_, refl, sym, _∙_, ap}
 use mathlib.Core.Bool.{Bool, true, false, not, _&&_, _||_}
-use borrow.Author.Tests.{not-true, not-false}
 
 -- the first test passes, and the answer is the second's
 pub and-then : (x a b : Bool) → x ≡ a → x ≡ true → b ≡ (a && b)
@@ -10,11 +9,6 @@ and-then x a b p q = ap (λ (z : Bool). z && b) (sym q ∙ p)
 -- the first test fails, and so does the whole
 pub and-else : (x a b : Bool) → x ≡ a → x ≡ false → x ≡ (a && b)
 and-else x a b p q = q ∙ ap (λ (z : Bool). z && b) (sym q ∙ p)
-
--- the second test fails, and so does the whole
-pub and-false : (a : Bool) → (a && false) ≡ false
-and-false true = refl
-and-false false = refl
 
 pub or-true : (a : Bool) → (a || true) ≡ true
 or-true true = refl
@@ -27,10 +21,3 @@ or-false false = refl
 pub not-not : (a : Bool) → a ≡ not (not a)
 not-not true = refl
 not-not false = refl
-
--- a test y that the code has as x, and asks as !x
-pub test-passed : (x y : Bool) → x ≡ y → not x ≡ false → y ≡ true
-test-passed x y e h = sym e ∙ not-false x h
-
-pub test-failed : (x y : Bool) → x ≡ y → not x ≡ true → y ≡ false
-test-failed x y e h = sym e ∙ not-true x h

@@ -15,7 +15,7 @@ use Rattle.model.specs.Batch.{ticks, delaysOf}
 use Rattle.model.specs.Clash.{clashes}
 use Rattle.model.specs.Open.{countsOk, ticksOk, jobsOk, weightOk, fewClashes, delaysMet}
 use Rattle.model.specs.Sound.{soundBatch, soundPath, soundBest, sound}
-use Rattle.model.proofs.ListLaws.{apart, both, and}
+use Rattle.model.proofs.BoolLaws.{apart, both, and, and-false, passes, fails}
 use Rattle.clashes.specs.declared.Clashes.{Clashes}
 use Rattle.clashes.specs.List.{listOf}
 use Rattle.clashes.proofs.ListedLaws.{list-count}
@@ -26,7 +26,6 @@ use Rattle.soundness.specs.declared.Examined.{Examined}
 use Rattle.soundness.specs.Limits.{ticksPass, delaysPass, limitsPass}
 use Rattle.soundness.specs.Path.{Reads}
 use Rattle.soundness.specs.Examined.{stateSound, Examines}
-use Rattle.soundness.proofs.BoolLaws.{and-false, test-passed, test-failed}
 use Rattle.soundness.proofs.StateLaws.{path-read}
 
 -- ---- soundness in the code's order
@@ -59,7 +58,7 @@ module _ (s : Search) (r : Examined) (no : r .sound ≡ false) where
   past-limits x p e =
       unsound-told
       (sound-parts s
-      ∙ ap (λ (q : Bool). ((q && fewClashes (s .batch)) && delaysMet (s .batch)) && stateSound s) (test-failed x (limitsPass (s .batch)) p e))
+      ∙ ap (λ (q : Bool). ((q && fewClashes (s .batch)) && delaysMet (s .batch)) && stateSound s) (fails p e))
 
   pub many-clashes : (l : Clashes) → l ≡ listOf (s .batch) → 1024 < l .count → Examines s r
   unfolding fewClashes
@@ -74,7 +73,7 @@ module _ (s : Search) (r : Examined) (no : r .sound ≡ false) where
   delays-unmet x p e =
       unsound-told
       (sound-parts s
-      ∙ ap (λ (q : Bool). ((limitsPass (s .batch) && fewClashes (s .batch)) && q) && stateSound s) (test-failed x (delaysMet (s .batch)) p e)
+      ∙ ap (λ (q : Bool). ((limitsPass (s .batch) && fewClashes (s .batch)) && q) && stateSound s) (fails p e)
       ∙ ap (λ (q : Bool). q && stateSound s) (and-false (limitsPass (s .batch) && fewClashes (s .batch))))
 
 -- ---- a record that passes
@@ -97,7 +96,7 @@ module _ (s : Search) (x met y : Bool) (l : Clashes) (r : Route) (d : Delays) (t
   unfolding fewClashes
   examined p p′ c few m m′ h e f g =
       let few′ : fewClashes (s .batch) ≡ true = le-leb (length (clashes (s .batch))) 1024 (omega (arith, list-count (s .batch) l c)) in
-      let pass = and (and (test-passed x (limitsPass (s .batch)) p p′) few′) (test-passed met (delaysMet (s .batch)) m m′) in
+      let pass = and (and (passes p p′) few′) (passes m m′) in
       record {
         told = e ∙ sym (sound-parts s ∙ ap (λ (q : Bool). q && stateSound s) pass);
         ready = λ z.

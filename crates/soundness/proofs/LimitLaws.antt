@@ -2,11 +2,12 @@
 use Prim.Native.Nat.{ℕ, _≤_}
 use mathlib.Core.Path.{_≡_, ap, sym, _∙_}
 use mathlib.Core.Bool.{Bool, true, false, _&&_}
-use mathlib.Core.List.{[]}
+use mathlib.Core.List.{List, []}
 use lib.ListN.{getD}
 use Rattle.model.specs.declared.Batch.{Batch}
+use Rattle.model.specs.declared.Delay.{Delay}
 use Rattle.model.specs.Common.{count}
-use Rattle.model.specs.Batch.{ticks, delayOf, delaysOf}
+use Rattle.model.specs.Batch.{blankDelay, ticks, delayOf, delaysOf}
 use Rattle.model.specs.Open.{countsOk, ticksOk, jobsOk, weightOk}
 use Rattle.model.proofs.LimitLaws.{counts-iff}
 use Rattle.starts.proofs.DelaysLaws.{ticks-told}
@@ -30,13 +31,18 @@ tick-told b i x e = e ∙ ap ticksOk (ticks-told b i)
 
 -- ---- delays
 
--- the test of delay k
-unfoldable pub delayTest : Batch → ℕ → Bool
-delayTest b k = jobsOk (b .n) (delayOf b k) && weightOk (delayOf b k)
+-- the test of delay k of a list, among n jobs
+unfoldable pub delayTest : ℕ → List Delay → ℕ → Bool
+delayTest n list k = jobsOk n (getD list k blankDelay) && weightOk (getD list k blankDelay)
 
-pub delays-start : (b : Batch) (m : ℕ) → m ≡ b .m → allFrom (delayTest b) 0 m ≡ delaysPass b
-unfolding delaysPass delayTest delaysOf
-delays-start b m e = rw e (all-start (delayTest b) (b .m) ∙ all-both (jobsOk (b .n)) weightOk (delayOf b) (count 0 (b .m)))
+pub delays-start : (b : Batch) (m : ℕ) → m ≡ b .m → allFrom (delayTest (b .n) (b .delays)) 0 m ≡ delaysPass b
+unfolding delaysPass delayTest delayOf delaysOf
+delays-start b m e = rw e (all-start (delayTest (b .n) (b .delays)) (b .m) ∙ all-both (jobsOk (b .n)) weightOk (delayOf b) (count 0 (b .m)))
+
+-- a delay that is read out of the list
+pub delay-told : (n : ℕ) (list : List Delay) (k : ℕ) (q : Delay) (x : Bool) → q ≡ getD list k blankDelay → x ≡ (jobsOk n q && weightOk q) → x ≡ delayTest n list k
+unfolding delayTest
+delay-told n list k q x read e = e ∙ ap (λ (p : Delay). jobsOk n p && weightOk p) read
 
 -- ---- the whole batch
 

@@ -1,5 +1,5 @@
 -- One turn tested by marks: the marks are on the clashes seen so far, so that each turn is tested against them in one step.
-use Prim.Native.Nat.{ℕ, zero, suc, _≤_, _<_}
+use Prim.Native.Nat.{ℕ, _≤_, _<_}
 use mathlib.Core.Path.{_≡_, refl, ap, sym, _∙_}
 use mathlib.Core.Bool.{Bool, true, false, _&&_, _||_, not}
 use mathlib.Core.List.{List, [], _∷_, _++_}
@@ -11,11 +11,13 @@ use lib.Dec.{leb, ltb, eqb}
 use borrow.Author.Tests.{lt-ltb, le-ltb, le-leb, lt-leb, ltb-true, leb-true, eq-eqb, ne-eqb}
 use Rattle.model.specs.declared.Turn.{Turn}
 use Rattle.model.specs.Common.{any}
-use Rattle.model.proofs.ListLaws.{both, and}
+use Rattle.model.proofs.BoolLaws.{both}
+use Rattle.model.proofs.SeqLaws.{blanks-at}
 use Rattle.model.proofs.BackLaws.{numbers}
+use Rattle.model.proofs.GoodLaws.{numbers-append}
 use Rattle.soundness.specs.Path.{turnNew}
 use Rattle.soundness.proofs.BoolLaws.{or-true, or-false}
-use Rattle.soundness.proofs.TurnLaws.{any-snoc, numbers-snoc, mayFollow}
+use Rattle.soundness.proofs.TurnLaws.{any-snoc, mayFollow}
 
 -- ---- one turn, as the code tests it; c is its clash
 
@@ -60,17 +62,12 @@ new-follows D marks ts t few m = go (ltb (t .clash) D) refl
 
 pub none-marked : Marked (replicate 1024 false) []
 unfolding Marked any numbers
-none-marked c h = blank 1024 c
-  where
-    blank : (n c : ℕ) → getD (replicate n false) c false ≡ false
-    blank zero c = refl
-    blank (suc n) zero = refl
-    blank (suc n) (suc c) = blank n c
+none-marked c h = blanks-at 1024 c false
 
 pub one-marked : (marks : List Bool) (ts : List Turn) (t : Turn) → length marks ≡ 1024 → t .clash < 1024 → Marked marks ts → Marked (set marks (t .clash) true) (ts ++ (t ∷ []))
 unfolding Marked
 one-marked marks ts t l h m c g =
-    go (ℕ-discrete c (t .clash)) ∙ sym (any-snoc (eqb c) (numbers ts) (t .clash)) ∙ ap (any (eqb c)) (sym (numbers-snoc ts t))
+    go (ℕ-discrete c (t .clash)) ∙ sym (any-snoc (eqb c) (numbers ts) (t .clash)) ∙ ap (any (eqb c)) (sym (numbers-append ts t))
   where
     go : Dec (c ≡ t .clash) → getD (set marks (t .clash) true) c false ≡ (any (eqb c) (numbers ts) || eqb c (t .clash))
     go (yes e) =

@@ -13,9 +13,8 @@ use Rattle.model.specs.declared.Turn.{Turn}
 use Rattle.model.specs.Common.{upTo}
 use Rattle.model.specs.Search.{empty, isTurn, turnsOf}
 use Rattle.model.specs.Sound.{soundTurns}
-use Rattle.model.proofs.ListLaws.{apart, and}
-use Rattle.model.proofs.BackLaws.{numbers}
-use Rattle.clashes.proofs.SeqLaws.{getD-same}
+use Rattle.model.proofs.BoolLaws.{apart, and}
+use Rattle.model.proofs.SeqLaws.{getD-same}
 use Rattle.soundness.specs.Path.{turnCode, turnNew, Reads}
 use Rattle.soundness.proofs.TurnLaws.{sound-none, sound-snoc, sound-spoilt}
 use Rattle.soundness.proofs.MarkLaws.{Marked, new-clash, new-follows, none-marked, one-marked}

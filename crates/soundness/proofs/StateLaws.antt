@@ -12,11 +12,10 @@ use Rattle.model.specs.Common.{all, isEmpty}
 use Rattle.model.specs.Clash.{clashes}
 use Rattle.model.specs.Search.{isTurn, turnsOf}
 use Rattle.model.specs.Sound.{soundTurns, soundPath, soundBest}
-use Rattle.model.proofs.ListLaws.{both}
+use Rattle.model.proofs.BoolLaws.{both, passes, fails}
 use Rattle.soundness.specs.declared.path.Route.{Route}
 use Rattle.soundness.specs.Path.{restEmpty, Reads}
 use Rattle.soundness.specs.Examined.{stateSound}
-use Rattle.soundness.proofs.BoolLaws.{test-passed, test-failed}
 
 -- ---- the path
 
@@ -32,7 +31,7 @@ module _ (s : Search) (r : Route) (h : Reads (s .path) (length (clashes (s .batc
   path-turns e =
       let ts = turnsOf (s .path) in
       ap (λ (p : Bool). (p && all (λ t. not (isTurn t)) (drop (length ts) (s .path))) && (not (s .ended) || isEmpty ts))
-      (sym (test-failed (r .sound) (soundTurns (length (clashes (s .batch))) ts) (h .told) e))
+      (sym (fails (h .told) e))
 
   module _ (fine : not (r .sound) ≡ false) where
     -- the turns are sound, and the rest decides
@@ -40,20 +39,20 @@ module _ (s : Search) (r : Route) (h : Reads (s .path) (length (clashes (s .batc
     unfolding soundPath restEmpty
     path-rest =
         let ts = turnsOf (s .path) in
-        let e : r .depth ≡ length ts = h .coded (test-passed (r .sound) (r .sound) refl fine) .whole in
+        let e : r .depth ≡ length ts = h .coded (passes refl fine) .whole in
         ap (λ (n : ℕ). all (λ t. not (isTurn t)) (drop n (s .path)) && (not (s .ended) || eqb n 0)) e
         ∙ ap (λ (p : Bool). all (λ t. not (isTurn t)) (drop (length ts) (s .path)) && (not (s .ended) || p)) (sym (empty-length ts))
         ∙ ap (λ (p : Bool). (p && all (λ t. not (isTurn t)) (drop (length ts) (s .path))) && (not (s .ended) || isEmpty ts))
-        (sym (test-passed (r .sound) (soundTurns (length (clashes (s .batch))) ts) (h .told) fine))
+        (sym (passes (h .told) fine))
 
     pub path-late : (x : Bool) → x ≡ restEmpty (s .path) (r .depth) → not x ≡ true → false ≡ soundPath s
     path-late x p e =
-        ap (λ (q : Bool). q && (not (s .ended) || eqb (r .depth) 0)) (sym (test-failed x (restEmpty (s .path) (r .depth)) p e)) ∙ path-rest
+        ap (λ (q : Bool). q && (not (s .ended) || eqb (r .depth) 0)) (sym (fails p e)) ∙ path-rest
 
     module _ (x : Bool) (p : x ≡ restEmpty (s .path) (r .depth)) (e : not x ≡ false) where
       path-left : (not (s .ended) || eqb (r .depth) 0) ≡ soundPath s
       path-left =
-          ap (λ (q : Bool). q && (not (s .ended) || eqb (r .depth) 0)) (sym (test-passed x (restEmpty (s .path) (r .depth)) p e)) ∙ path-rest
+          ap (λ (q : Bool). q && (not (s .ended) || eqb (r .depth) 0)) (sym (passes p e)) ∙ path-rest
 
       -- the search has not ended
       pub path-open : not (s .ended) ≡ true → not (s .ended) ≡ soundPath s
@@ -78,13 +77,13 @@ module _ (s : Search) where
   pub state-path : (x : Bool) → x ≡ soundPath s → not x ≡ true → false ≡ stateSound s
   unfolding stateSound
   state-path x p e =
-      ap (λ (q : Bool). (q && leb (s .total) 100000000) && soundBest (s .batch .n) (s .best) (s .starts)) (sym (test-failed x (soundPath s) p e))
+      ap (λ (q : Bool). (q && leb (s .total) 100000000) && soundBest (s .batch .n) (s .best) (s .starts)) (sym (fails p e))
 
   module _ (x : Bool) (p : x ≡ soundPath s) (e : not x ≡ false) where
     state-rest : (leb (s .total) 100000000 && soundBest (s .batch .n) (s .best) (s .starts)) ≡ stateSound s
     unfolding stateSound
     state-rest =
-        ap (λ (q : Bool). (q && leb (s .total) 100000000) && soundBest (s .batch .n) (s .best) (s .starts)) (sym (test-passed x (soundPath s) p e))
+        ap (λ (q : Bool). (q && leb (s .total) 100000000) && soundBest (s .batch .n) (s .best) (s .starts)) (sym (passes p e))
 
     pub state-total : 100000000 < s .total → false ≡ stateSound s
     state-total h =

@@ -9,9 +9,9 @@ use borrow.Author.Tests.{eqb-true, eqb-false, eq-eqb, ne-eqb}
 use Rattle.model.specs.declared.Turn.{Turn}
 use Rattle.model.specs.Common.{all, any}
 use Rattle.model.specs.Sound.{distinct, soundTurns}
-use Rattle.model.proofs.ListLaws.{apart, both}
+use Rattle.model.proofs.BoolLaws.{apart, both, and-false}
 use Rattle.model.proofs.BackLaws.{numbers}
-use Rattle.soundness.proofs.BoolLaws.{and-false}
+use Rattle.model.proofs.GoodLaws.{numbers-append}
 
 -- ---- lists with one more at the end
 
@@ -41,11 +41,6 @@ module _ {A : Type 0} (f : A → Bool) where
       go : (p : Bool) → any f (xs ++ (x ∷ [])) ≡ (any f xs || f x) → (elim p [ true ↦ true | false ↦ any f (xs ++ (x ∷ [])) ]) ≡ ((elim p [ true ↦ true | false ↦ any f xs ]) || f x)
       go true e = refl
       go false e = e
-
-pub numbers-snoc : (ts : List Turn) (t : Turn) → numbers (ts ++ (t ∷ [])) ≡ numbers ts ++ (t .clash ∷ [])
-unfolding numbers
-numbers-snoc [] t = refl
-numbers-snoc (u ∷ ts) t = ap (λ (l : List ℕ). u .clash ∷ l) (numbers-snoc ts t)
 
 eqb-sym : (x y : ℕ) → eqb x y ≡ eqb y x
 eqb-sym x y = go (eqb x y) refl
@@ -83,7 +78,7 @@ unfolding soundTurns mayFollow numbers
 sound-snoc D ts t =
     let ok : Turn → Bool = λ t. ltb (t .clash) D && leb (t .side) 1 in
     ap (λ (p : Bool). p && distinct (numbers (ts ++ (t ∷ [])))) (all-snoc ok ts t)
-    ∙ ap (λ (l : List ℕ). (all ok ts && ok t) && distinct l) (numbers-snoc ts t)
+    ∙ ap (λ (l : List ℕ). (all ok ts && ok t) && distinct l) (numbers-append ts t)
     ∙ ap (λ (p : Bool). (all ok ts && ok t) && p) (distinct-snoc (numbers ts) (t .clash))
     ∙ go (all ok ts) (ok t) (distinct (numbers ts)) (not (any (eqb (t .clash)) (numbers ts)))
   where

@@ -1,23 +1,18 @@
 // The limits of a batch: n and m, then the ticks of the jobs below n, then the delays below m. No place past n and m is read, and none
 // before n and m are known to be within their limits.
+use delay_list::nth_delay;
 use limits::counts_ok;
 use limits::jobs_ok;
 use limits::ticks_ok;
 use limits::weight_ok;
 use model::Batch;
 use model::Delay;
+use model::wide;
 ghost use mathlib.Core.Path.{_≡_};
 ghost use mathlib.Core.Bool.{_&&_};
 ghost use Prim.Native.Nat.{_≤_};
 ghost use Rattle.model.specs.Open.{jobsOk, weightOk};
 ghost use Rattle.soundness.specs.Limits.{ticksPass, delaysPass, limitsPass};
-
-// A small number as an index.
-pub fn wide(x: u8) -> usize
-    ensures { λ r. ⌜ r ≡ x ⌝ }
-{
-    x as usize
-}
 
 // Each job below n has 1 to 16 ticks.
 fn ticks_pass(batch: Batch) -> bool
@@ -49,10 +44,11 @@ fn delays_pass(batch: Batch) -> bool
     ensures { λ r. ⌜ r ≡ delaysPass batch ⌝ }
 {
     let n = batch.n;
+    let list = batch.delays;
     let m = wide(batch.m);
     let mut k: usize = 0;
     while k < m {
-        let q = batch.delays[k];
+        let q = nth_delay(list, k);
         if !delay_ok(n, q) {
             return false;
         }

@@ -1,5 +1,6 @@
 // A path: its turns up to the first empty place, read in one pass that marks the clashes it has seen, and then only empty places.
 use model::Turn;
+use model::wide16;
 ghost use mathlib.Core.Path.{_≡_};
 ghost use mathlib.Core.Bool.{not};
 ghost use Prim.Native.Nat.{_≤_, _<_};
@@ -11,13 +12,6 @@ pub struct Route {
     pub sound: bool,
     pub depth: usize,
     pub turns: [u16; 1024],
-}
-
-// A number as an index.
-fn number(x: u16) -> usize
-    ensures { λ r. ⌜ (r ≡ x) × (r < 65536) ⌝ }
-{
-    x as usize
 }
 
 // A place without a turn.
@@ -32,7 +26,7 @@ fn turn_ok(t: Turn, count: usize, marks: &[bool; 1024]) -> bool
     requires { ⌜ count ≤ 1024 ⌝ }
     ensures { λ r. ⌜ r ≡ turnNew count (now (marks .entry)) t ⌝ }
 {
-    let clash = number(t.clash);
+    let clash = wide16(t.clash);
     if count <= clash {
         return false;
     }
@@ -71,7 +65,7 @@ pub fn read_path(path: [Turn; 1024], count: usize) -> Route
                 turns,
             };
         }
-        let clash = number(t.clash);
+        let clash = wide16(t.clash);
         marks[clash] = true;
         turns[k] = code_of(t);
         k = k + 1;

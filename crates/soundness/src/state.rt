@@ -1,9 +1,9 @@
 // What soundness asks beside the batch: the path, with no turn at all if the search has ended, the total, and best.
-use crate::batch::wide;
 use crate::best::best_ok;
 use crate::path::Route;
 use crate::path::rest_empty;
 use model::Search;
+use model::wide;
 ghost use mathlib.Core.Path.{_≡_};
 ghost use Prim.Native.Nat.{_≤_};
 ghost use lib.ListN.{length};

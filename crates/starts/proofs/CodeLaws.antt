@@ -13,7 +13,8 @@ use mir.ValLaws.{toZ-ofZ}
 use borrow.Author.Tests.{lt-ltb, le-ltb, leb-true, leb-false}
 use Rattle.model.specs.Clash.{Clash}
 use Rattle.model.specs.Starts.{plus}
-use Rattle.starts.specs.Code.{Limited, coded, shifted, clashCode, ClashFits}
+use Rattle.clashes.specs.Code.{lift, codeOf}
+use Rattle.starts.specs.Code.{Limited, coded, ClashFits}
 
 -- ---- weights
 
@@ -88,25 +89,25 @@ told-coded w r f e = e ∙ ap coded (toZ-ofZ w16 w f)
 -- ---- clashes
 
 module _ (n : ℕ) (few : n ≤ 24) (c : Clash) (f : ClashFits n c) where
-  pub shifted-most : shifted (c .d) ≤ 30
-  unfolding shifted
-  shifted-most = go (c .d) (f .high)
+  pub lift-most : lift (c .d) ≤ 30
+  unfolding lift
+  lift-most = go (c .d) (f .high)
     where
-      go : (d : ℤ) → d ≤ℤ pos 15 → shifted d ≤ 30
+      go : (d : ℤ) → d ≤ℤ pos 15 → lift d ≤ 30
       go (pos k) h = let p : k ≤ 15 = leb→le _ _ (h .le) in omega arith
       go (negsuc k) h = omega arith
 
-  pub clash-i : clashCode c / 1024 ≡ c .i
-  unfolding clashCode
-  clash-i = omega (arith, shifted-most, f .i, f .j)
+  pub clash-i : codeOf c / 1024 ≡ c .i
+  unfolding codeOf
+  clash-i = omega (arith, lift-most, f .i, f .j)
 
-  pub clash-j : clashCode c / 32 % 32 ≡ c .j
-  unfolding clashCode
-  clash-j = omega (arith, shifted-most, f .i, f .j)
+  pub clash-j : codeOf c / 32 % 32 ≡ c .j
+  unfolding codeOf
+  clash-j = omega (arith, lift-most, f .i, f .j)
 
-  pub clash-d : clashCode c % 32 ≡ shifted (c .d)
-  unfolding clashCode
-  clash-d = omega (arith, shifted-most, f .i, f .j)
+  pub clash-d : codeOf c % 32 ≡ lift (c .d)
+  unfolding codeOf
+  clash-d = omega (arith, lift-most, f .i, f .j)
 
 -- 1 − (k + 2)
 below-0 : (k : ℕ) → subℕ 1 (suc (suc k)) ≡ negsuc k
@@ -120,8 +121,8 @@ few-above : (k : ℕ) → k ≤ 16 → Limited (pos k)
 few-above k h = record { low = record { le = tt }; high = record { le = le→leb k 1000 (omega arith) } }
 
 -- d + 1, the weight of side 0
-pub side0-code : (d : ℤ) → negsuc 14 ≤ℤ d → d ≤ℤ pos 15 → coded (d +ℤ pos 1) ≡ shifted d + 29986
-unfolding coded shifted
+pub side0-code : (d : ℤ) → negsuc 14 ≤ℤ d → d ≤ℤ pos 15 → coded (d +ℤ pos 1) ≡ lift d + 29986
+unfolding coded lift
 side0-code (pos k) l h = omega arith
 side0-code (negsuc zero) l h = refl
 side0-code (negsuc (suc k)) l h = let p : suc k ≤ 14 = leb→le (suc k) 14 (l .le) in rw (below-0 k) (omega arith)
@@ -133,8 +134,8 @@ side0-limited (negsuc (suc k)) l h =
     let p : suc k ≤ 14 = leb→le (suc k) 14 (l .le) in rw (below-0 k) (few-below k (omega arith))
 
 -- 1 − d, the weight of side 1
-pub side1-code : (d : ℤ) → negsuc 14 ≤ℤ d → d ≤ℤ pos 15 → coded (pos 1 -ℤ d) ≡ 30016 - shifted d
-unfolding coded shifted
+pub side1-code : (d : ℤ) → negsuc 14 ≤ℤ d → d ≤ℤ pos 15 → coded (pos 1 -ℤ d) ≡ 30016 - lift d
+unfolding coded lift
 side1-code (pos zero) l h = refl
 side1-code (pos (suc zero)) l h = refl
 side1-code (pos (suc (suc k))) l h =

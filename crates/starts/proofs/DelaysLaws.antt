@@ -1,12 +1,13 @@
 -- Reading a batch: the arrays after the loop are those of the definitions.
 use mathlib.Core.Path.{_≡_, refl}
-use mathlib.Core.List.{List, [], _∷_}
-use Prim.Native.Nat.{ℕ, zero, suc, _≤_}
+use mathlib.Core.List.{List, []}
+use Prim.Native.Nat.{ℕ, _≤_}
 use native.Mathlib.Omega.{arith}
 use lib.ListN.{getD}
 use Rattle.model.specs.declared.Job.{Job}
 use Rattle.model.specs.declared.Batch.{Batch}
 use Rattle.model.specs.Batch.{delayOf, ticks, jobOf, blankJob}
+use Rattle.model.proofs.SeqLaws.{getD-default}
 use Rattle.starts.specs.Code.{coded}
 use Rattle.starts.specs.Rounds.{filled}
 use Rattle.starts.specs.Delays.{delaysRead, ticksRead}
@@ -20,12 +21,7 @@ delays-read b from to code m k e h g p q r = let s : k ≡ b .m = omega arith in
 -- a job that is read out of the array
 pub ticks-told : (b : Batch) (i : ℕ) → getD (b .jobs) i (record { ticks = 0; masks = [] }) .ticks ≡ ticks b i
 unfolding ticks jobOf blankJob
-ticks-told b i = go (b .jobs) i
-  where
-    go : (l : List Job) (i : ℕ) → getD l i (record { ticks = 0; masks = [] }) .ticks ≡ getD l i blankJob .ticks
-    go [] i = refl
-    go (x ∷ l) zero = refl
-    go (x ∷ l) (suc i) = go l i
+ticks-told b i = getD-default (λ (j : Job). j .ticks) (b .jobs) i (record { ticks = 0; masks = [] }) blankJob refl
 
 pub ticks-read : (b : Batch) (l : List ℕ) (n i : ℕ) → n ≡ b .n → i ≤ n → n ≤ i → l ≡ filled (ticks b) 24 i → l ≡ ticksRead b
 unfolding ticksRead

@@ -1,13 +1,14 @@
 -- An array filled from the front: each place below k has its value, each other place 0.
-use mathlib.Core.Path.{_≡_, refl, sym, _∙_, ap}
-use mathlib.Core.List.{List, [], _∷_, _++_, map}
-use Prim.Native.Nat.{ℕ, zero, suc, _+_, _-_, _≤_, _<_}
+use mathlib.Core.Path.{_≡_, refl, sym, _∙_}
+use mathlib.Core.List.{List, [], _∷_, map}
+use Prim.Native.Nat.{ℕ, zero, suc, _+_, _≤_, _<_}
 use native.Mathlib.Omega.{arith}
 use native.Mathlib.Numerals.{add-one}
 use native.Mathlib.Decide.{decLt, ℕ-discrete}
-use lib.ListN.{length, getD, set, replicate, length-set, length-replicate, length-append, List·getD-eq-default, length-map}
+use lib.ListN.{length, getD, set, replicate, length-set, length-replicate, List·getD-eq-default}
 use lib.Seq.{getD-set-same, getD-set-other, ext-getD}
 use Rattle.model.specs.Common.{count, pad}
+use Rattle.model.proofs.SeqLaws.{listed-at, listed-length, blanks-at, pad-at, pad-length}
 use Rattle.starts.specs.Rounds.{Small, filled}
 
 pub filled-none : (f : ℕ → ℕ) (size : ℕ) → replicate size 0 ≡ filled f size 0
@@ -24,11 +25,6 @@ unfolding filled
 filled-length f size zero = length-replicate size 0
 filled-length f size (suc k) = length-set (filled f size k) k (f k) ∙ filled-length f size k
 
-pub zeros-at : (n i : ℕ) → _≡_ {A = ℕ} (getD (replicate n 0) i 0) 0
-zeros-at zero i = refl
-zeros-at (suc n) zero = refl
-zeros-at (suc n) (suc i) = zeros-at n i
-
 pub filled-at : (f : ℕ → ℕ) (size k i : ℕ) → k ≤ size → i < k → getD (filled f size k) i 0 ≡ f i
 unfolding filled
 filled-at f size zero i h p = absurd (omega arith)
@@ -40,7 +36,7 @@ filled-at f size (suc k) i h p = go (ℕ-discrete i k) (filled-at f size k i (om
 
 pub filled-past : (f : ℕ → ℕ) (size k i : ℕ) → k ≤ i → getD (filled f size k) i 0 ≡ 0
 unfolding filled
-filled-past f size zero i p = zeros-at size i
+filled-past f size zero i p = blanks-at size i 0
 filled-past f size (suc k) i p =
     getD-set-other (filled f size k) k i (f k) 0 (λ e. omega arith) ∙ filled-past f size k i (omega arith)
 
@@ -50,65 +46,20 @@ unfolding filled
 filled-cong f g size zero h = refl
 filled-cong f g size (suc k) h = rw (filled-cong f g size k (λ i p. h i (omega arith)), h k (omega arith))
 
--- ---- numbers in a row, and blanks behind a list
-
-pub count-length : (a k : ℕ) → length (count a k) ≡ k
-unfolding count
-count-length a zero = refl
-count-length a (suc k) = ap suc (count-length (suc a) k)
-
-map-count-at : {A : Type 0} (f : ℕ → A) (d : A) (a k i : ℕ) → i < k → getD (map f (count a k)) i d ≡ f (a + i)
-unfolding count
-map-count-at f d a zero i h = absurd (omega arith)
-map-count-at f d a (suc k) zero h = ap f (omega arith)
-map-count-at f d a (suc k) (suc i) h = map-count-at f d (suc a) k i (omega arith) ∙ ap f (omega arith)
-
--- the same, counted from 0
-pub listed-at : {A : Type 0} (f : ℕ → A) (d : A) (k i : ℕ) → i < k → getD (map f (count 0 k)) i d ≡ f i
-listed-at f d k i h = map-count-at f d 0 k i h ∙ ap f (omega arith)
-
-pub listed-length : {A : Type 0} (f : ℕ → A) (k : ℕ) → length (map f (count 0 k)) ≡ k
-listed-length f k = length-map (count 0 k) f ∙ count-length 0 k
-
-count-snoc : (a k : ℕ) → count a (suc k) ≡ count a k ++ ((a + k) ∷ [])
-unfolding count
-count-snoc a zero = ap (λ (x : ℕ). x ∷ []) (omega arith)
-count-snoc a (suc k) = ap (λ (l : List ℕ). a ∷ l) (count-snoc (suc a) k ∙ ap (λ (x : ℕ). count (suc a) k ++ (x ∷ [])) (omega arith))
-
-pub map-snoc : {A B : Type 0} (f : A → B) (xs : List A) (x : A) → map f (xs ++ (x ∷ [])) ≡ map f xs ++ (f x ∷ [])
-map-snoc f [] x = refl
-map-snoc f (y ∷ xs) x = ap (λ (l : List _). f y ∷ l) (map-snoc f xs x)
-
-pub listed-snoc : {A : Type 0} (f : ℕ → A) (k : ℕ) → map f (count 0 (suc k)) ≡ map f (count 0 k) ++ (f k ∷ [])
-listed-snoc f k =
-    ap (map f) (count-snoc 0 k) ∙ map-snoc f (count 0 k) (0 + k) ∙ ap (λ (i : ℕ). map f (count 0 k) ++ (f i ∷ [])) (omega arith)
-
--- padding with 0 is not seen at any place
-pub pad-at : (size : ℕ) (l : List ℕ) (i : ℕ) → getD (pad size 0 l) i 0 ≡ getD l i 0
-unfolding pad
-pad-at size l i = go l (size - length l) i
-  where
-    go : (l : List ℕ) (k i : ℕ) → getD (l ++ replicate k 0) i 0 ≡ getD l i 0
-    go [] k i = zeros-at k i
-    go (x ∷ l) k zero = refl
-    go (x ∷ l) k (suc i) = go l k i
-
-pub pad-length : (size : ℕ) (l : List ℕ) → length l ≤ size → length (pad size 0 l) ≡ size
-unfolding pad
-pad-length size l h = length-append l (replicate (size - length l) 0) ∙ omega (arith, length-replicate {A = ℕ} (size - length l) 0)
+-- ---- as a list
 
 -- a filled array is the list of its values, padded
 pub filled-is : (f : ℕ → ℕ) (size k : ℕ) → k ≤ size → filled f size k ≡ pad size 0 (map f (count 0 k))
 filled-is f size k h =
     let e : length (map f (count 0 k)) ≡ k = listed-length f k in
     ext-getD 0 (filled f size k) (pad size 0 (map f (count 0 k)))
-    (filled-length f size k ∙ sym (pad-length size (map f (count 0 k)) (omega arith)))
+    (filled-length f size k ∙ sym (pad-length size 0 (map f (count 0 k)) (omega arith)))
     (λ i p. go i (decLt i k) e)
   where
     go : (i : ℕ) → Dec (i < k) → length (map f (count 0 k)) ≡ k → getD (filled f size k) i 0 ≡ getD (pad size 0 (map f (count 0 k))) i 0
-    go i (yes p) e = filled-at f size k i h p ∙ sym (pad-at size (map f (count 0 k)) i ∙ listed-at f 0 k i p)
+    go i (yes p) e = filled-at f size k i h p ∙ sym (pad-at size 0 (map f (count 0 k)) i ∙ listed-at f 0 k i p)
     go i (no p) e =
-        filled-past f size k i (omega arith) ∙ sym (pad-at size (map f (count 0 k)) i ∙ List·getD-eq-default (map f (count 0 k)) 0 (omega arith))
+        filled-past f size k i (omega arith) ∙ sym (pad-at size 0 (map f (count 0 k)) i ∙ List·getD-eq-default (map f (count 0 k)) 0 (omega arith))
 
 -- ---- bounds
 
@@ -121,7 +72,7 @@ set-all P (x ∷ l) (suc i) a d h p zero = h 0
 set-all P (x ∷ l) (suc i) a d h p (suc k) = set-all P l i a d (λ (j : ℕ). h (suc j)) p k
 
 pub zeros-small : (b n : ℕ) → Small (replicate n 0) b
-zeros-small b n = record { each = λ k. omega (arith, zeros-at n k) }
+zeros-small b n = record { each = λ k. omega (arith, blanks-at {A = ℕ} n k 0) }
 
 pub small-more : (l : List ℕ) (a b : ℕ) → a ≤ b → Small l a → Small l b
 small-more l a b h p = record { each = λ k. omega (arith, p .each k) }

@@ -13,7 +13,8 @@ use Rattle.model.specs.Plan.{start, finish, latency}
 use Rattle.starts.specs.Rounds.{Small}
 use Rattle.starts.specs.Delays.{ticksRead}
 use Rattle.starts.specs.Latency.{latencyOf, TicksFit}
-use Rattle.starts.proofs.FillLaws.{filled-at, listed-snoc, pad-at}
+use Rattle.model.proofs.SeqLaws.{listed-snoc, pad-at}
+use Rattle.starts.proofs.FillLaws.{filled-at}
 
 -- ---- the code's loop
 
@@ -63,4 +64,4 @@ module _ (b : Batch) (few : b .n ≤ 24) (ss : List ℕ) where
   latency-take = latency-law (take (b .n) ss) (λ i p. sym (getD-take (b .n) ss i 0 p))
 
 pub latency-padded : (b : Batch) → b .n ≤ 24 → (ts : List ℕ) → latencyOf (ticksRead b) (pad 24 0 ts) (b .n) ≡ latency b ts
-latency-padded b few ts = latency-law b few (pad 24 0 ts) ts (λ i p. pad-at 24 ts i)
+latency-padded b few ts = latency-law b few (pad 24 0 ts) ts (λ i p. pad-at 24 0 ts i)

@@ -16,11 +16,12 @@ use Rattle.model.specs.Batch.{delayOf, delaysOf}
 use Rattle.model.specs.Clash.{Clash}
 use Rattle.model.specs.Starts.{entry, table, leastStarts}
 use Rattle.model.specs.Search.{noClash, sideOf, turned, inequalities, startsAt, empty}
-use Rattle.starts.specs.Code.{coded, placeCode, clashCode, ClashFits}
+use Rattle.model.proofs.SeqLaws.{map-snoc, listed-snoc, listed-at, listed-length}
+use Rattle.clashes.specs.Code.{codeOf}
+use Rattle.starts.specs.Code.{coded, placeCode, ClashFits}
 use Rattle.starts.specs.Table.{putIn, turnIn, withDelays, withTurns, emptyTable, DelaysFit, TurnFits, TurnsFit}
 use Rattle.starts.specs.Least.{leastOf, leastAs, HoldsDelays, HoldsTurns}
 use Rattle.starts.proofs.CodeLaws.{coded-most, clash-i, clash-j, clash-d, side0-code, side0-limited, side1-code, side1-limited}
-use Rattle.starts.proofs.FillLaws.{map-snoc, listed-snoc, listed-at, listed-length}
 use Rattle.starts.proofs.TableLaws.{turn-side0, turn-side1}
 use Rattle.starts.proofs.PlaceLaws.{codeAt, Tabled, empty-tabled, put-tabled}
 use Rattle.starts.proofs.SettledLaws.{settled-is}
@@ -48,7 +49,7 @@ module _ (b : Batch) (few : b .n ≤ 24) (froms tos codes : List ℕ) (h : Holds
 -- ---- turns
 
 -- the inequality of one side of a clash
-pub side-tabled : (n : ℕ) → n ≤ 24 → (t : List (List ℕ)) (qs : List Delay) → Tabled n t qs → (c : Clash) → ClashFits n c → (s turn code : ℕ) → s ≤ 1 → turn % 2 ≡ s → code ≡ clashCode c
+pub side-tabled : (n : ℕ) → n ≤ 24 → (t : List (List ℕ)) (qs : List Delay) → Tabled n t qs → (c : Clash) → ClashFits n c → (s turn code : ℕ) → s ≤ 1 → turn % 2 ≡ s → code ≡ codeOf c
     → Tabled n (turnIn t code turn) (qs ++ (sideOf c s ∷ []))
 unfolding sideOf
 side-tabled n few t qs h c f zero turn code g p e =
@@ -70,7 +71,7 @@ module _ (n : ℕ) (few : n ≤ 24) (cs : List Clash) (ts : List Turn) (clashes 
   on : (k : ℕ) → k < length ts → getD turns k 0 / 2 ≡ getD ts k empty .clash
   on k p = omega (arith, h .turn k p, h .side k p)
 
-  code-is : (k : ℕ) → k < length ts → getD clashes (getD turns k 0 / 2) 0 ≡ clashCode (getD cs (getD ts k empty .clash) noClash)
+  code-is : (k : ℕ) → k < length ts → getD clashes (getD turns k 0 / 2) 0 ≡ codeOf (getD cs (getD ts k empty .clash) noClash)
   code-is k p = ap (λ (c : ℕ). getD clashes c 0) (on k p) ∙ h .code k p
 
   pub turns-fit : TurnsFit clashes turns (length ts)
@@ -80,7 +81,7 @@ module _ (n : ℕ) (few : n ≤ 24) (cs : List Clash) (ts : List Turn) (clashes 
         jobs = λ k p. rw (code-is k p) (fit (getD cs (getD ts k empty .clash) noClash) (h .fits k p));
       }
     where
-      fit : (c : Clash) → ClashFits n c → TurnFits (clashCode c)
+      fit : (c : Clash) → ClashFits n c → TurnFits (codeOf c)
       fit c f = record { i = omega (arith, clash-i n few c f, f .i); j = omega (arith, clash-j n few c f, f .j) }
 
   pub turns-tabled : (t : List (List ℕ)) (qs : List Delay) → Tabled n t qs → (k : ℕ) → k ≤ length ts → Tabled n (withTurns clashes turns t k) (qs ++ map (turned cs) (take k ts))

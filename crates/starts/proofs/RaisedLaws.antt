@@ -13,10 +13,12 @@ use borrow.Author.Tests.{eqb-true, eq-eqb}
 use Rattle.model.specs.declared.Delay.{Delay}
 use Rattle.model.specs.Common.{if_then_else_, count}
 use Rattle.model.specs.Starts.{plus, raised, rounds, firstStarts}
+use Rattle.model.proofs.ListLaws.{count-length}
+use Rattle.model.proofs.SeqLaws.{listed-at, blanks-at}
+use Rattle.model.proofs.StartsLaws.{raised-old}
 use Rattle.starts.specs.Code.{coded, Limited, Fits}
 use Rattle.starts.specs.Rounds.{largest, startOf}
 use Rattle.starts.proofs.CodeLaws.{plus-coded, coded-most}
-use Rattle.starts.proofs.FillLaws.{count-length, listed-at, zeros-at}
 use Rattle.starts.proofs.RoundLaws.{largest-first}
 use Rattle.starts.proofs.PlaceLaws.{codeAt, kept, code-cons}
 
@@ -40,15 +42,6 @@ largest-below row old first (suc k) x h f =
 -- ---- the definition's raised start, over starts below 30,000
 
 module _ (n : ℕ) (old : List ℕ) (low : (i : ℕ) → getD old i 0 < 30000) (j : ℕ) where
-  raised-old : (qs : List Delay) → getD old j 0 ≤ raised qs old j
-  unfolding raised if_then_else_
-  raised-old [] = le-refl (getD old j 0)
-  raised-old (q ∷ qs) = go (eqb (q .to) j) (raised-old qs)
-    where
-      go : (b : Bool) → getD old j 0 ≤ raised qs old j → getD old j 0 ≤ (if b then max (plus (getD old (q .from) 0) (q .weight)) (raised qs old j) else raised qs old j)
-      go true h = omega arith
-      go false h = h
-
   -- no place asks for more: an empty one adds less than 30,000
   place-below : (qs : List Delay) → ((q : Delay) → List·Memᴰ q qs → Fits n q) → (i : ℕ) → getD old i 0 + codeAt qs i j ≤ raised qs old j + 30000
   unfolding raised if_then_else_ kept codeAt Rattle.model.specs.Starts.entry Rattle.starts.specs.Code.placeCode
@@ -100,7 +93,7 @@ module _ (n : ℕ) (old : List ℕ) (low : (i : ℕ) → getD old i 0 < 30000) (
   unfolding startOf
   start-raised qs f row e =
       let up : largest row old (getD old j 0 + 30000) n ≤ raised qs old j + 30000 =
-      largest-below row old (getD old j 0 + 30000) n (raised qs old j + 30000) (omega (arith, raised-old qs))
+      largest-below row old (getD old j 0 + 30000) n (raised qs old j + 30000) (omega (arith, raised-old qs old j))
       (λ i p. omega (arith, place-below qs f i, e i p)) in
       let down : raised qs old j + 30000 ≤ largest row old (getD old j 0 + 30000) n =
       raised-below qs f (largest row old (getD old j 0 + 30000) n) (largest-first row old (getD old j 0 + 30000) n)
@@ -143,7 +136,7 @@ module _ (n : ℕ) (qs : List Delay) where
   -- after k rounds no start is above 1,000 * k
   pub rounds-bound : ((q : Delay) → List·Memᴰ q qs → Fits n q) → (k j : ℕ) → getD (rounds qs (firstStarts n) k) j 0 ≤ 1000 * k
   unfolding rounds firstStarts
-  rounds-bound f zero j = omega (arith, zeros-at n j)
+  rounds-bound f zero j = omega (arith, blanks-at {A = ℕ} n j 0)
   rounds-bound f (suc k) j = go (decLt j n) (rounds-bound f k)
     where
       go : Dec (j < n) → ((i : ℕ) → getD (rounds qs (firstStarts n) k) i 0 ≤ 1000 * k) → getD (rounds qs (firstStarts n) (suc k)) j 0 ≤ 1000 * suc k

@@ -1,6 +1,6 @@
 -- Rounds as the code takes them: one place, one job, one round more, and no start rises by more than 1,000 in a round.
 use mathlib.Core.Path.{_≡_, refl, sym, _∙_}
-use mathlib.Core.Bool.{Bool, true, false, _&&_}
+use mathlib.Core.Bool.{Bool, true, false}
 use mathlib.Core.List.{List, []}
 use mathlib.Core.Logic.{⊎-elim}
 use Prim.Native.Nat.{ℕ, zero, suc, _+_, _*_, _-_, _≤_, _<_, max}
@@ -10,6 +10,7 @@ use native.Mathlib.Omega.{arith}
 use lib.Dec.{eqb}
 use lib.ListN.{getD, set, replicate}
 use Rattle.model.specs.Common.{if_then_else_}
+use Rattle.model.proofs.BoolLaws.{and-false}
 use Rattle.starts.specs.declared.Least.{Least}
 use Rattle.starts.specs.Rounds.{Small, SmallRows, largest, startOf, roundOf, sameTo, leastFrom}
 use Rattle.starts.proofs.FillLaws.{filled-none, filled-more, filled-small, small-more}
@@ -76,12 +77,8 @@ unfolding sameTo
 same-never a b k zero h e = absurd (not-suc-le-zero h)
 same-never a b k (suc n) h e =
     ⊎-elim (λ (w : k ≡ n). rw (← w, e))
-    (λ (w : k < n). rw (same-never a b k n w e) (both (eqb (getD a n 0) (getD b n 0))))
+    (λ (w : k < n). rw (same-never a b k n w e) (and-false (eqb (getD a n 0) (getD b n 0))))
     (eq-or-lt-of-le (omega arith))
-  where
-    both : (x : Bool) → x && false ≡ false
-    both true = refl
-    both false = refl
 
 -- ---- the rounds, as the code has them: the new starts and the test are results of calls
 

@@ -1,9 +1,9 @@
 -- Rounds over a table that holds a list of inequalities give the list's least starts. A round that changes nothing ends them: no later
 -- round changes anything either.
 use mathlib.Core.Path.{_≡_, refl, sym, _∙_, ap}
-use mathlib.Core.Bool.{Bool, true, false, _&&_}
+use mathlib.Core.Bool.{Bool, true, false}
 use mathlib.Core.Option.{none, some}
-use mathlib.Core.List.{List, [], _∷_, map, List·Memᴰ}
+use mathlib.Core.List.{List, [], map, List·Memᴰ}
 use Prim.Native.Nat.{ℕ, zero, suc, _+_, _-_, _≤_, _<_, pred}
 use native.Mathlib.Omega.{arith}
 use native.Mathlib.Decide.{ℕ-discrete}
@@ -14,35 +14,18 @@ use borrow.Author.Tests.{eqb-true, eq-eqb}
 use Rattle.model.specs.declared.Delay.{Delay}
 use Rattle.model.specs.Common.{if_then_else_, count, pad}
 use Rattle.model.specs.Starts.{raised, rounds, same, firstStarts, leastStarts}
+use Rattle.model.proofs.BoolLaws.{both}
+use Rattle.model.proofs.SeqLaws.{pad-at}
+use Rattle.model.proofs.StartsLaws.{same-eq, same-refl}
 use Rattle.starts.specs.declared.Least.{Least}
 use Rattle.starts.specs.Code.{Fits}
 use Rattle.starts.specs.Rounds.{startOf, roundOf, sameTo, leastFrom}
 use Rattle.starts.specs.Least.{leastAs}
-use Rattle.starts.proofs.FillLaws.{filled-is, filled-cong, pad-at}
+use Rattle.starts.proofs.FillLaws.{filled-is, filled-cong}
 use Rattle.starts.proofs.PlaceLaws.{Tabled}
 use Rattle.starts.proofs.RaisedLaws.{start-raised, raised-cong, rounds-length, rounds-more, rounds-bound}
 
--- ---- the two tests for sameness
-
-pub both : (a b : Bool) → a && b ≡ true → (a ≡ true) × (b ≡ true)
-both true b e = (refl, e)
-both false b e = let z : _≡_ {A = ℕ} 0 1 = cc in absurd (omega arith)
-
-pub same-self : (l : List ℕ) → same l l ≡ true
-unfolding same
-same-self [] = refl
-same-self (x ∷ l) = rw (eq-eqb x x refl) (same-self l)
-
-pub same-equal : (a b : List ℕ) → same a b ≡ true → a ≡ b
-unfolding same
-same-equal [] [] e = refl
-same-equal [] (y ∷ b) e = let z : _≡_ {A = ℕ} 0 1 = cc in absurd (omega arith)
-same-equal (x ∷ a) [] e = let z : _≡_ {A = ℕ} 0 1 = cc in absurd (omega arith)
-same-equal (x ∷ a) (y ∷ b) e =
-    let h = both (eqb x y) (same a b) e in
-    let p : x ≡ y = eqb-true x y (h .0) in
-    let q : a ≡ b = same-equal a b (h .1) in
-    cc
+-- ---- the test for sameness, place by place
 
 pub sameTo-self : (l : List ℕ) (k : ℕ) → sameTo l l k ≡ true
 unfolding sameTo
@@ -83,7 +66,7 @@ module _ (n : ℕ) (few : n ≤ 24) (t : List (List ℕ)) (qs : List Delay) (h :
       ∙ filled-is (raised qs (after n qs k)) 24 n few ∙ ap (pad 24 0) (sym (rounds-more n qs k))
     where
       same-at : (i : ℕ) → getD (pad 24 0 (after n qs k)) i 0 ≡ getD (after n qs k) i 0
-      same-at i = pad-at 24 (after n qs k) i
+      same-at i = pad-at 24 0 (after n qs k) i
 
       start : (j : ℕ) → j < n → startOf (getD t j []) (pad 24 0 (after n qs k)) j n ≡ raised qs (after n qs k) j
       start j b =
@@ -107,7 +90,7 @@ module _ (n : ℕ) (few : n ≤ 24) (t : List (List ℕ)) (qs : List Delay) (h :
       unchanged : sameTo (pad 24 0 (after n qs a)) (pad 24 0 (after n qs (suc a))) n ≡ true → after n qs a ≡ after n qs (suc a)
       unchanged g =
           ext-getD 0 (after n qs a) (after n qs (suc a)) (rounds-length n qs a ∙ sym (rounds-length n qs (suc a)))
-          (λ i p. sym (pad-at 24 (after n qs a) i) ∙ sameTo-at _ _ n g i (omega (arith, rounds-length n qs a)) ∙ pad-at 24 (after n qs (suc a)) i)
+          (λ i p. sym (pad-at 24 0 (after n qs a) i) ∙ sameTo-at _ _ n g i (omega (arith, rounds-length n qs a)) ∙ pad-at 24 0 (after n qs (suc a)) i)
 
       last : (m : ℕ) → a ≤ m → after n qs a ≡ after n qs (suc a) → after n qs m ≡ after n qs a
       last m p g = let s : m ≡ a + (m - a) = omega arith in ap (after n qs) s ∙ rounds-stay n qs a g (m - a)
@@ -116,7 +99,7 @@ module _ (n : ℕ) (few : n ≤ 24) (t : List (List ℕ)) (qs : List Delay) (h :
       changed g z true s =
           let p : n ≡ suc a = omega arith in
           let q : pred n ≡ a = omega arith in
-          let r : after n qs (suc a) ≡ after n qs a = ap (after n qs) (sym p) ∙ same-equal _ _ s ∙ ap (after n qs) q in
+          let r : after n qs (suc a) ≡ after n qs a = ap (after n qs) (sym p) ∙ same-eq _ _ s ∙ ap (after n qs) q in
           let w : sameTo (pad 24 0 (after n qs a)) (pad 24 0 (after n qs (suc a))) n ≡ true = rw r (sameTo-self (pad 24 0 (after n qs a)) n) in
           cc
       changed g z false s = refl
@@ -127,7 +110,7 @@ module _ (n : ℕ) (few : n ≤ 24) (t : List (List ℕ)) (qs : List Delay) (h :
       go true g rec =
           let p : after n qs n ≡ after n qs a = last n (omega arith) (unchanged g) in
           let q : after n qs (pred n) ≡ after n qs a = last (pred n) (omega arith) (unchanged g) in
-          rw (p, q, same-self (after n qs a))
+          rw (p, q, same-refl (after n qs a))
       go false g rec = rec (λ z. changed g z (same (after n qs n) (after n qs (pred n))) refl)
 
   -- the least starts of the list
@@ -146,6 +129,6 @@ least-most n few qs f l e j = go (same (after n qs n) (after n qs (pred n))) ref
     go : (b : Bool) → same (after n qs n) (after n qs (pred n)) ≡ b → (if b then some (after n qs n) else none) ≡ some l → getD l j 0 ≤ 23000
     go true g h =
         let p : after n qs n ≡ l = cc in
-        let q : getD l j 0 ≡ getD (after n qs (pred n)) j 0 = ap (λ (x : List ℕ). getD x j 0) (sym p ∙ same-equal _ _ g) in
+        let q : getD l j 0 ≡ getD (after n qs (pred n)) j 0 = ap (λ (x : List ℕ). getD x j 0) (sym p ∙ same-eq _ _ g) in
         omega (arith, rounds-bound n qs f (pred n) j)
     go false g h = let z : _≡_ {A = ℕ} 0 1 = cc in absurd (omega arith)

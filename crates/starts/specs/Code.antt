@@ -1,5 +1,5 @@
--- Weights and clashes as unsigned numbers. A weight w is held as w + 30,000, so that 0 is left for an empty place.
-use Prim.Native.Nat.{ℕ, suc, _+_, _-_, _*_, _<_}
+-- Weights as unsigned numbers: a weight w is held as w + 30,000, so that 0 is left for an empty place. And what fits them.
+use Prim.Native.Nat.{ℕ, suc, _+_, _-_, _<_}
 use mathlib.Core.Option.{Option, none, some}
 use lib.IntN.{ℤ, pos, negsuc}
 use lib.Signed.{_≤ℤ_}
@@ -26,15 +26,6 @@ pub record Fits (n : ℕ) (q : Delay) : Type 0 where
   pub from : q .from < n
   pub to : q .to < n
   pub weight : Limited (q .weight)
-
--- d + 15
-unfoldable pub shifted : ℤ → ℕ
-shifted (pos k) = 15 + k
-shifted (negsuc k) = 14 - k
-
--- the code of a clash: i * 1024 + j * 32 + (d + 15)
-unfoldable pub clashCode : Clash → ℕ
-clashCode c = c .i * 1024 + c .j * 32 + shifted (c .d)
 
 -- a clash of jobs below n, with a distance of −15 to 15
 pub record ClashFits (n : ℕ) (c : Clash) : Type 0 where

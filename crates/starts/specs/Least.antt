@@ -11,8 +11,9 @@ use Rattle.model.specs.Common.{pad}
 use Rattle.model.specs.Batch.{delayOf}
 use Rattle.model.specs.Clash.{Clash}
 use Rattle.model.specs.Search.{noClash, empty}
+use Rattle.clashes.specs.Code.{codeOf}
 use Rattle.starts.specs.declared.Least.{Least}
-use Rattle.starts.specs.Code.{Limited, coded, clashCode, ClashFits}
+use Rattle.starts.specs.Code.{Limited, coded, ClashFits}
 use Rattle.starts.specs.Rounds.{leastFrom}
 use Rattle.starts.specs.Table.{withDelays, withTurns, emptyTable}
 
@@ -42,5 +43,5 @@ pub record HoldsTurns (n : ℕ) (cs : List Clash) (ts : List Turn) (clashes turn
   pub turn : (k : ℕ) → k < length ts → getD turns k 0 ≡ 2 * getD ts k empty .clash + getD ts k empty .side
   pub side : (k : ℕ) → k < length ts → getD ts k empty .side ≤ 1
   pub clash : (k : ℕ) → k < length ts → getD ts k empty .clash < 1024
-  pub code : (k : ℕ) → k < length ts → getD clashes (getD ts k empty .clash) 0 ≡ clashCode (getD cs (getD ts k empty .clash) noClash)
+  pub code : (k : ℕ) → k < length ts → getD clashes (getD ts k empty .clash) 0 ≡ codeOf (getD cs (getD ts k empty .clash) noClash)
   pub fits : (k : ℕ) → k < length ts → ClashFits n (getD cs (getD ts k empty .clash) noClash)

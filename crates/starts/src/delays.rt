@@ -1,5 +1,7 @@
 // A batch's delays as plain parallel arrays, and its jobs' ticks: what a search copies out of the batch once.
+use delay_list::nth_delay;
 use model::Batch;
+use model::wide;
 ghost use mathlib.Core.Path.{_≡_};
 ghost use Prim.Native.Nat.{_≤_};
 ghost use Rattle.starts.specs.Code.{Limited, coded};
@@ -21,12 +23,6 @@ fn code_of(w: i16) -> u16
     lifted + 29000
 }
 
-pub fn wide(x: u8) -> usize
-    ensures { λ r. ⌜ r ≡ x ⌝ }
-{
-    x as usize
-}
-
 pub fn delays_of(batch: Batch) -> Delays
     requires { ⌜ Readable batch ⌝ }
     ensures { λ r. ⌜ r ≡ delaysRead batch ⌝ }
@@ -34,10 +30,11 @@ pub fn delays_of(batch: Batch) -> Delays
     let mut from = [0u8; 128];
     let mut to = [0u8; 128];
     let mut code = [0u16; 128];
+    let list = batch.delays;
     let m = wide(batch.m);
     let mut k: usize = 0;
     while k < m {
-        let q = batch.delays[k];
+        let q = nth_delay(list, k);
         let w = q.weight;
         from[k] = q.from;
         to[k] = q.to;

@@ -1,8 +1,8 @@
 // Whether some starts meet a batch's delays: they do exactly where the delays alone have least starts.
 use crate::delays::delays_of;
-use crate::delays::wide;
 use crate::least_starts;
 use model::Batch;
+use model::wide;
 ghost use mathlib.Core.Path.{_≡_};
 ghost use Rattle.model.specs.Open.{delaysMet};
 ghost use Rattle.starts.specs.Delays.{DelaysSound};

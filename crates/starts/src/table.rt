@@ -1,4 +1,5 @@
 // The working table: 24 rows of 24 weights, each place empty or the largest weight for that pair. Row j has what ends in job j.
+use model::wide16;
 ghost use mathlib.Core.Path.{_≡_};
 ghost use Prim.Native.Nat.{_≤_, _<_, _/_};
 ghost use lib.ListN.{getD};
@@ -20,19 +21,13 @@ fn job(x: u8) -> usize
     x as usize
 }
 
-fn number(x: u16) -> usize
-    ensures { λ r. ⌜ r ≡ x ⌝ }
-{
-    x as usize
-}
-
 // The inequality of a turn on the clash with this code: t_j − t_i ≥ d + 1 on side 0, t_i − t_j ≥ 1 − d on side 1.
 fn put_turn(table: &mut [[u16; 24]; 24], clash: u16, turn: u16)
     requires { ⌜ TurnFits clash ⌝ }
     ensures { λ _. ⌜ now (table .exit) ≡ turnIn (now (table .entry)) clash turn ⌝ }
 {
-    let i = number(clash / 1024);
-    let j = number(clash / 32 % 32);
+    let i = wide16(clash / 1024);
+    let j = wide16(clash / 32 % 32);
     let d = clash % 32;
     if turn % 2 == 0 {
         put(table, i, j, d + 29986);
@@ -74,7 +69,7 @@ pub fn fill_turns(
     let mut k: usize = 0;
     while k < depth {
         let turn = turns[k];
-        let c = number(turn / 2);
+        let c = wide16(turn / 2);
         put_turn(table, clashes[c], turn);
         k = k + 1;
     }

@@ -8,17 +8,13 @@ use native.Mathlib.Omega.{arith}
 use lib.ListN.{length, length-append}
 use Rattle.model.specs.Common.{count, joined}
 use Rattle.model.specs.Line.{digitsOf}
+use Rattle.model.proofs.SeqLaws.{count-snoc}
 use Rattle.lines.specs.Write.{overwritten}
 use Rattle.lines.proofs.Puts.{put-nothing, put-length, put-then, digits-append}
 
 -- the first k pieces
 unfoldable pub pieces : (ℕ → List ℕ) → ℕ → List ℕ
 pieces f k = joined f (count 0 k)
-
-count-more : (a k : ℕ) → count a (suc k) ≡ count a k ++ ((a + k) ∷ [])
-unfolding count
-count-more a zero = ap (λ (x : ℕ). x ∷ []) (omega arith)
-count-more a (suc k) = ap (λ (xs : List ℕ). a ∷ xs) (count-more (suc a) k ∙ ap (λ (x : ℕ). count (suc a) k ++ (x ∷ [])) (omega arith))
 
 joined-append : {A : Type 0} (f : A → List ℕ) (xs ys : List A) → joined f (xs ++ ys) ≡ joined f xs ++ joined f ys
 unfolding joined
@@ -30,7 +26,7 @@ pub pieces-more : (f : ℕ → List ℕ) (k : ℕ) → pieces f (k + 1) ≡ piec
 unfolding pieces joined
 pieces-more f k =
     ap (λ (n : ℕ). joined f (count 0 n)) (add-one k)
-    ∙ ap (joined f) (count-more 0 k)
+    ∙ ap (joined f) (count-snoc 0 k)
     ∙ joined-append f (count 0 k) ((0 + k) ∷ [])
     ∙ ap (λ (l : List ℕ). joined f (count 0 k) ++ l) (append-nil (f (0 + k)) ∙ ap f (zero-add k))
 

@@ -1,9 +1,8 @@
 -- What the tests before a text decide: refusal 12, for a plan 15, and what soundness says of a batch that is to be written.
 use Prim.Native.Nat.{ℕ}
-use mathlib.Core.Path.{_≡_, ap, ap₂, sym, _∙_}
-use mathlib.Core.Bool.{Bool, true, false, not}
+use mathlib.Core.Path.{_≡_, ap, ap₂, sym}
+use mathlib.Core.Bool.{Bool, true, false}
 use mathlib.Core.List.{List}
-use borrow.Author.Tests.{not-true, not-false}
 use Rattle.model.specs.declared.Search.{Search}
 use Rattle.model.specs.Common.{Outcome, refuse, accept, _>>=_, require}
 use Rattle.model.specs.Format.{batchFile}
@@ -23,13 +22,6 @@ sound-bounded s h =
       delays = counts-iff (s .batch .n) (s .batch .m) .0 (passes .counts) .1;
       ticks-each = fits .short;
     }
-
--- what a negated test of a call's answer says of the definition
-pub told-no : {r t : Bool} → r ≡ t → not r ≡ true → t ≡ false
-told-no {r} e h = sym e ∙ not-true r h
-
-pub told-yes : {r t : Bool} → r ≡ t → not r ≡ false → t ≡ true
-told-yes {r} e h = sym e ∙ not-false r h
 
 -- ---- the batch text
 

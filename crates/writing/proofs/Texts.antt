@@ -1,7 +1,7 @@
 -- The texts that the loops put, as pieces: the masks of a job, the job lines, the delay lines, and the start lines.
-use Prim.Native.Nat.{ℕ, zero, suc, _+_, _*_, _≤_}
+use Prim.Native.Nat.{ℕ, _+_, _*_, _≤_}
 use mathlib.Core.Path.{_≡_, refl, ap, sym, _∙_}
-use mathlib.Core.List.{List, [], _∷_, _++_, append-assoc}
+use mathlib.Core.List.{List, [], _++_, append-assoc}
 use native.Mathlib.Omega.{arith}
 use lib.ListN.{length, getD, length-append}
 use Rattle.model.specs.declared.Job.{Job}
@@ -11,6 +11,7 @@ use Rattle.model.specs.Batch.{blankJob, jobOf, ticks, delayOf, delaysOf}
 use Rattle.model.specs.Plan.{start}
 use Rattle.model.specs.Line.{digitsOf, two}
 use Rattle.model.specs.Format.{headerLine, masksOf, jobLine, jobsOf, delayLine, batchFile}
+use Rattle.model.proofs.SeqLaws.{getD-default}
 use Rattle.lines.specs.Write.{overwritten}
 use Rattle.lines.proofs.Puts.{put-then}
 use Rattle.writing.specs.Lines.{headLine, startLine, startLines, foundLines}
@@ -44,19 +45,13 @@ jobs-text b = joined-pieces jobLine (jobOf b) (b .n)
 abbrev pub readJob : Batch → ℕ → Job
 readJob b i = getD (b .jobs) i (record { ticks = 0; masks = [] })
 
--- what is the same of two defaults is the same of what is read
-default : {A B : Type 0} (f : A → B) (xs : List A) (i : ℕ) (d e : A) → f d ≡ f e → f (getD xs i d) ≡ f (getD xs i e)
-default f [] i d e h = h
-default f (x ∷ xs) zero d e h = refl
-default f (x ∷ xs) (suc i) d e h = default f xs i d e h
-
 pub read-line : (b : Batch) (i : ℕ) → jobLine (readJob b i) ≡ jobPiece b i
 unfolding jobOf jobLine masksOf blankJob count
-read-line b i = default jobLine (b .jobs) i (record { ticks = 0; masks = [] }) blankJob refl
+read-line b i = getD-default jobLine (b .jobs) i (record { ticks = 0; masks = [] }) blankJob refl
 
 pub read-ticks : (b : Batch) (i : ℕ) → readJob b i .ticks ≡ ticks b i
 unfolding ticks jobOf blankJob
-read-ticks b i = default (λ job. job .ticks) (b .jobs) i (record { ticks = 0; masks = [] }) blankJob refl
+read-ticks b i = getD-default (λ job. job .ticks) (b .jobs) i (record { ticks = 0; masks = [] }) blankJob refl
 
 pub read-length : (b : Batch) (i : ℕ) → length (jobPiece b i) ≡ 4 * readJob b i .ticks + 5
 read-length b i = ap length (sym (read-line b i)) ∙ job-length (readJob b i)

@@ -11,7 +11,7 @@ use mir.Val.{Fits, SFits, toZ, ofZ}
 use mir.ValLaws.{toZ-ofZ}
 use borrow.Author.Tests.{le-ltb}
 use Rattle.model.specs.Format.{unsigned}
-use Rattle.model.proofs.ListLaws.{apart}
+use Rattle.model.proofs.BoolLaws.{apart}
 use Rattle.model.proofs.FrameLaws.{unsigned-small}
 
 -- a weight as the code holds it, and plus 65,536 over 32 bits

@@ -14,6 +14,7 @@ use crate::frame::put_delay;
 use crate::frame::put_header;
 use crate::frame::put_pair;
 use crate::number::wide;
+use delay_list::nth_delay;
 use model::Batch;
 use model::Job;
 
@@ -92,11 +93,12 @@ fn put_delays(buffer: &mut [u8], at: usize, batch: Batch) -> usize
     requires { ⌜ (batch .m ≤ mostDelays) × (at + 11 * batch .m ≤ length (now buffer)) ⌝ }
     ensures { λ r. ⌜ (r ≡ at + 11 * batch .m) × (now (buffer .exit) ≡ overwritten (now (buffer .entry)) at (joined delayLine (delaysOf batch))) ⌝ }
 {
+    let list = batch.delays;
     let m = wide(batch.m);
     let mut next = at;
     let mut k: usize = 0;
     while k < m {
-        let delay = batch.delays[k];
+        let delay = nth_delay(list, k);
         next = put_delay(buffer, next, delay);
         k = k + 1;
     }

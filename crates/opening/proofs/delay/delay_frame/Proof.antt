@@ -3,7 +3,7 @@ use mathlib.Core.Path.{_∙_}
 use native.Mathlib.Omega.{arith}
 use mir.Syntax.{w16}
 use mir.ValLaws.{toZ-ofZ}
-use Rattle.opening.proofs.Tests.{passes}
+use Rattle.model.proofs.BoolLaws.{passes}
 use Rattle.opening.proofs.Bytes.{frame-size}
 use Rattle.opening.proofs.DelayLaws.{delay-is, delay-kind, delay-jobs, delay-weight, delay-read}
 use borrow.Author.Needs.{needs}

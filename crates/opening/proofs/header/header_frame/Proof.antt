@@ -1,6 +1,6 @@
 -- `header_frame` asks the kind and length, the edition, and then n and m.
 use native.Mathlib.Omega.{arith}
-use Rattle.opening.proofs.Tests.{passes}
+use Rattle.model.proofs.BoolLaws.{passes}
 use Rattle.opening.proofs.Bytes.{frame-size}
 use Rattle.opening.proofs.HeaderLaws.{header-kind, header-edition, header-counts, header-read}
 use borrow.Author.Needs.{needs}

@@ -3,7 +3,7 @@ use Prim.Native.Nat.{ℕ, _+_, _*_}
 use mathlib.Core.Path.{ap, sym, _∙_}
 use native.Mathlib.Omega.{arith}
 use Rattle.model.proofs.LimitLaws.{ticks-iff}
-use Rattle.opening.proofs.Tests.{passes}
+use Rattle.model.proofs.BoolLaws.{passes}
 use Rattle.opening.proofs.Bytes.{frame-length, frame-size}
 use Rattle.opening.proofs.JobLaws.{job-short, job-kind, job-ticks, job-read}
 use borrow.Author.Needs.{needs}

@@ -8,7 +8,6 @@ use Rattle.search.proofs.answer.answered.Tie as tie
 use Rattle.search.proofs.answer.answered.Reads as reads
 use Rattle.search.proofs.answer.answered.Lts as lts
 use Rattle.search.proofs.answer.give_starts.Reads as give-starts-reads
-use Rattle.search.proofs.answer.wide.Reads as wide-reads
 
 returns : tie.Need-returns
 returns c = told-spent _ _ _ _ _ _ (not-true (c .before .before .before .args .search .ended) (c .if1 .taken))

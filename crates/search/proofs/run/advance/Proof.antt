@@ -8,7 +8,6 @@ use Rattle.search.proofs.run.advance.Statement.{statement}
 use Rattle.search.proofs.run.advance.Tie as tie
 use Rattle.search.proofs.run.advance.Reads as reads
 use Rattle.search.proofs.run.advance.Lts as lts
-use Rattle.search.proofs.answer.wide.Reads as wide-reads
 use Rattle.search.proofs.nodes.visit_nodes.Reads as visit-nodes-reads
 use Rattle.search.proofs.run.rebuilt.Reads as rebuilt-reads
 

@@ -10,7 +10,6 @@ use Rattle.search.proofs.run.run_search.Tie as tie
 use Rattle.search.proofs.run.run_search.Reads as reads
 use Rattle.search.proofs.run.run_search.Lts as lts
 use Rattle.search.proofs.answer.answered.Reads as answered-reads
-use Rattle.search.proofs.answer.wide.Reads as wide-reads
 use Rattle.search.proofs.run.after_run.Reads as after-run-reads
 use Rattle.search.proofs.run.overdrawn.Reads as overdrawn-reads
 use Rattle.search.proofs.run.refused.Reads as refused-reads

@@ -3,7 +3,7 @@ use Prim.Native.Nat.{_-_}
 use mathlib.Core.Path.{_≡_}
 use borrow.Author.Needs.{needs}
 use Rattle.soundness.specs.Limits.{ticksPass}
-use Rattle.soundness.proofs.BoolLaws.{test-passed, test-failed}
+use Rattle.model.proofs.BoolLaws.{passes, fails}
 use Rattle.soundness.proofs.AllLaws.{allFrom, all-passed, all-failed, all-ended}
 use Rattle.soundness.proofs.LimitLaws.{tickTest, ticks-start, tick-told}
 use Rattle.soundness.proofs.batch.ticks_pass.Statement.{statement}
@@ -33,7 +33,7 @@ ticks-ok-requires c κs = search needs
 returns : tie.Need-returns Inv-loop μ-loop
 returns c =
     let at = c .before .before .before in
-    all-failed _ _ _ _ (at .before .loop .inv .1) (at .loop-test .taken) (test-failed _ _ (tick-told _ _ _ (c .before .ticks-ok .ensures)) (c .if1 .taken))
+    all-failed _ _ _ _ (at .before .loop .inv .1) (at .loop-test .taken) (fails (tick-told _ _ _ (c .before .ticks-ok .ensures)) (c .if1 .taken))
 
 add-i : tie.Need-add-i Inv-loop μ-loop
 add-i c = search needs
@@ -44,7 +44,7 @@ loop-less c = search needs
 loop-again : tie.Need-loop-again Inv-loop μ-loop
 loop-again c =
     let at = c .before .before .before in
-    (at .before .loop .inv .0, all-passed _ _ _ _ (at .before .loop .inv .1) (at .loop-test .taken) (test-passed _ _ (tick-told _ _ _ (c .before .ticks-ok .ensures)) (c .if1 .left)))
+    (at .before .loop .inv .0, all-passed _ _ _ _ (at .before .loop .inv .1) (at .loop-test .taken) (passes (tick-told _ _ _ (c .before .ticks-ok .ensures)) (c .if1 .left)))
 
 returns-2 : tie.Need-returns-2 Inv-loop μ-loop
 returns-2 c = all-ended _ _ _ _ (c .before .loop .inv .1) (c .loop-test .left)

@@ -3,7 +3,7 @@ use Prim.Native.Nat.{_-_, _≤_}
 use mathlib.Core.Path.{refl}
 use native.Mathlib.Omega.{arith}
 use borrow.Author.Needs.{needs}
-use Rattle.soundness.proofs.BoolLaws.{test-passed}
+use Rattle.model.proofs.BoolLaws.{passes}
 use Rattle.soundness.proofs.MarkLaws.{new-clash, new-side}
 use Rattle.soundness.proofs.PathLaws.{Read, read-none, read-more, read-bad, read-empty, read-end}
 use Rattle.soundness.proofs.path.read_path.Statement.{statement}
@@ -37,15 +37,15 @@ returns c =
     read-bad _ _ _ _ _ (at .before .before .pre) (at .before .loop .inv .1) _ _ (at .loop-test .taken) refl _ _ _ (turn .before .is-empty .ensures)
     (turn .if1 .left) (c .before .turn-ok .ensures) (c .if2 .taken)
 
-number-requires : tie.Need-number-requires Inv-loop μ-loop
-number-requires c κs = search needs
+wide16-requires : tie.Need-wide16-requires Inv-loop μ-loop
+wide16-requires c κs = search needs
 
 array-write-marks : tie.Need-array-write-marks Inv-loop μ-loop
-array-write-marks c = omega (arith, new-clash _ _ _ (test-passed _ _ (c .before .before .turn-ok .ensures) (c .before .if2 .left)))
+array-write-marks c = omega (arith, new-clash _ _ _ (passes (c .before .before .turn-ok .ensures) (c .before .if2 .left)))
 
 code-of-requires : tie.Need-code-of-requires Inv-loop μ-loop
 code-of-requires c κs =
-    let new = test-passed _ _ (c .before .before .turn-ok .ensures) (c .before .if2 .left) in
+    let new = passes (c .before .before .turn-ok .ensures) (c .before .if2 .left) in
     (omega (arith, new-clash _ _ _ new), new-side _ _ _ new)
 
 mul-turns : tie.Need-mul-turns Inv-loop μ-loop
@@ -67,7 +67,7 @@ loop-again c =
     let at = turn .before .before .before in (
       search needs,
       read-more _ _ _ _ _ (at .before .before .pre) (at .before .loop .inv .1) _ _ (at .loop-test .taken) refl _ _ _ _ (turn .before .is-empty .ensures)
-          (turn .if1 .left) (new .before .turn-ok .ensures) (new .if2 .left) (c .before .number .ensures .0) (c .code-of .ensures),
+          (turn .if1 .left) (new .before .turn-ok .ensures) (new .if2 .left) (c .before .wide16 .ensures .0) (c .code-of .ensures),
     )
 
 returns-2 : tie.Need-returns-2 Inv-loop μ-loop
@@ -90,7 +90,7 @@ read-path-spec =
     is-empty-requires
     turn-ok-requires
     returns
-    number-requires
+    wide16-requires
     array-write-marks
     code-of-requires
     mul-turns

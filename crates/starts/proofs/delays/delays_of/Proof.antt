@@ -3,23 +3,25 @@ use native.Mathlib.Omega.{arith}
 use Rattle.starts.proofs.CodeLaws.{told-limited, told-coded}
 use Rattle.starts.proofs.DelaysLaws.{delays-read}
 use borrow.Author.Needs.{needs}
-use mathlib.Core.Path.{_≡_, refl}
+use mathlib.Core.Path.{_≡_, _∙_, ap, subst, sym}
 use Prim.Native.Nat.{_≤_, _-_}
+use lib.ListN.{getD}
+use Rattle.model.specs.declared.Delay.{Delay}
 use Rattle.model.specs.Batch.{delayOf, blankDelay}
-use Rattle.starts.specs.Code.{coded}
+use Rattle.starts.specs.Code.{Limited, coded}
 use Rattle.starts.specs.Rounds.{filled}
 use Rattle.starts.proofs.FillLaws.{filled-none, filled-more}
 use Rattle.starts.proofs.delays.delays_of.Statement.{statement}
 use Rattle.starts.proofs.delays.delays_of.Tie as tie
 
 abbrev Inv-loop : tie.InvT-loop
-Inv-loop batch from₀ to₀ code₀ m k₀ from to code k =
+Inv-loop from₀ to₀ code₀ list m k₀ from to code k =
     (k ≤ m)
-    × ((from ≡ filled (λ i. delayOf batch i .from) 128 k)
-    × ((to ≡ filled (λ i. delayOf batch i .to) 128 k) × (code ≡ filled (λ i. coded (delayOf batch i .weight)) 128 k)))
+    × ((from ≡ filled (λ i. getD list i blankDelay .from) 128 k)
+    × ((to ≡ filled (λ i. getD list i blankDelay .to) 128 k) × (code ≡ filled (λ i. coded (getD list i blankDelay .weight)) 128 k)))
 
 abbrev μ-loop : tie.MeasureT-loop
-μ-loop batch from₀ to₀ code₀ m k₀ from to code k = m - k
+μ-loop from₀ to₀ code₀ list m k₀ from to code k = m - k
 
 wide-requires : tie.Need-wide-requires Inv-loop μ-loop
 wide-requires c κs = search needs
@@ -27,11 +29,8 @@ wide-requires c κs = search needs
 loop-holds : tie.Need-loop-holds Inv-loop μ-loop
 loop-holds c = (search needs, (filled-none _ 128, (filled-none _ 128, filled-none _ 128)))
 
-mul-q : tie.Need-mul-q Inv-loop μ-loop
-mul-q c = search needs
-
-element-copy-out-q : tie.Need-element-copy-out-q Inv-loop μ-loop
-element-copy-out-q c = search needs
+nth-delay-requires : tie.Need-nth-delay-requires Inv-loop μ-loop
+nth-delay-requires c κs = search needs
 
 array-write-from : tie.Need-array-write-from Inv-loop μ-loop
 array-write-from c = search needs
@@ -40,10 +39,12 @@ array-write-to : tie.Need-array-write-to Inv-loop μ-loop
 array-write-to c = search needs
 
 code-of-requires : tie.Need-code-of-requires Inv-loop μ-loop
-unfolding delayOf blankDelay
+unfolding delayOf
 code-of-requires c κs =
+    let at = c .before .before .before in
     told-limited _ (record { sfits = c .struct-told .given .1 .1 .0 .1 })
-    (c .before .before .before .before .before .pre .weights (c .before .before .before .loop .k) (omega (arith, c .before .before .before .before .wide .ensures)))
+    (subst (λ (q : Delay). Limited (q .weight)) (sym (c .before .nth-delay .ensures))
+    (at .before .before .before .pre .weights (at .loop .k) (omega (arith, at .before .wide .ensures))))
 
 mul-code : tie.Need-mul-code Inv-loop μ-loop
 mul-code c = search needs
@@ -58,20 +59,22 @@ loop-less : tie.Need-loop-less Inv-loop μ-loop
 loop-less c = search needs
 
 loop-again : tie.Need-loop-again Inv-loop μ-loop
-unfolding delayOf blankDelay
 loop-again c =
+    let read = c .before .before .nth-delay .ensures in
     let h = c .before .before .before .before .loop .inv .1 in (
       search needs,
       (
-        filled-more _ 128 _ _ _ (h .0) refl,
+        filled-more _ 128 _ _ _ (h .0) (ap (λ (q : Delay). q .from) read),
         (
-          filled-more _ 128 _ _ _ (h .1 .0) refl,
-          filled-more _ 128 _ _ _ (h .1 .1) (told-coded _ _ (record { sfits = c .before .struct-told .given .1 .1 .0 .1 }) (c .code-of .ensures)),
+          filled-more _ 128 _ _ _ (h .1 .0) (ap (λ (q : Delay). q .to) read),
+          filled-more _ 128 _ _ _ (h .1 .1)
+              (told-coded _ _ (record { sfits = c .before .struct-told .given .1 .1 .0 .1 }) (c .code-of .ensures) ∙ ap (λ (q : Delay). coded (q .weight)) read),
         ),
       ),
     )
 
 returns : tie.Need-returns Inv-loop μ-loop
+unfolding delayOf
 returns c =
     let h = c .before .loop .inv in
     delays-read _ _ _ _ _ _ (c .before .before .wide .ensures) (h .0) (c .loop-test .left) (h .1 .0) (h .1 .1 .0) (h .1 .1 .1)
@@ -84,8 +87,7 @@ delays-of-spec =
     μ-loop
     wide-requires
     loop-holds
-    mul-q
-    element-copy-out-q
+    nth-delay-requires
     array-write-from
     array-write-to
     code-of-requires

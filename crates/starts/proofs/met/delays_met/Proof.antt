@@ -4,7 +4,6 @@ use native.Mathlib.Omega.{arith}
 use Rattle.starts.proofs.SoundLaws.{readable}
 use Rattle.starts.proofs.Law.{no-turns}
 use Rattle.starts.proofs.MetLaws.{met-fits, met-is}
-use borrow.Author.Needs.{needs}
 use Rattle.starts.proofs.met.delays_met.Statement.{statement}
 use Rattle.starts.proofs.met.delays_met.Tie as tie
 

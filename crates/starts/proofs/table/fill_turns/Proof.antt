@@ -23,17 +23,17 @@ mul-turn c = search needs
 element-copy-out-turn : tie.Need-element-copy-out-turn Inv-loop μ-loop
 element-copy-out-turn c = search needs
 
-number-requires : tie.Need-number-requires Inv-loop μ-loop
-number-requires c κs = search needs
+wide16-requires : tie.Need-wide16-requires Inv-loop μ-loop
+wide16-requires c κs = search needs
 
 mul-put-turn : tie.Need-mul-put-turn Inv-loop μ-loop
-mul-put-turn c = omega (arith, c .before .number .ensures, c .before .before .before .before .before .pre .1 .clash (c .before .before .before .before .loop .k) (c .before .before .before .loop-test .taken))
+mul-put-turn c = omega (arith, c .before .wide16 .ensures .0, c .before .before .before .before .before .pre .1 .clash (c .before .before .before .before .loop .k) (c .before .before .before .loop-test .taken))
 
 element-copy-out-put-turn : tie.Need-element-copy-out-put-turn Inv-loop μ-loop
-element-copy-out-put-turn c = omega (arith, c .before .number .ensures, c .before .before .before .before .before .pre .1 .clash (c .before .before .before .before .loop .k) (c .before .before .before .loop-test .taken))
+element-copy-out-put-turn c = omega (arith, c .before .wide16 .ensures .0, c .before .before .before .before .before .pre .1 .clash (c .before .before .before .before .loop .k) (c .before .before .before .loop-test .taken))
 
 put-turn-requires : tie.Need-put-turn-requires Inv-loop μ-loop
-put-turn-requires c κs = rw (c .before .before .number .ensures) (c .before .before .before .before .before .before .pre .1 .jobs (c .before .before .before .before .before .loop .k) (c .before .before .before .before .loop-test .taken))
+put-turn-requires c κs = rw (c .before .before .wide16 .ensures .0) (c .before .before .before .before .before .before .pre .1 .jobs (c .before .before .before .before .before .loop .k) (c .before .before .before .before .loop-test .taken))
 
 add-k : tie.Need-add-k Inv-loop μ-loop
 add-k c = search needs
@@ -42,7 +42,7 @@ loop-less : tie.Need-loop-less Inv-loop μ-loop
 loop-less c = search needs
 
 loop-again : tie.Need-loop-again Inv-loop μ-loop
-loop-again c = (search needs, turns-more _ _ _ _ _ _ _ (c .before .before .before .before .before .before .loop .inv .1) (c .before .before .before .number .ensures) (c .put-turn .ensures))
+loop-again c = (search needs, turns-more _ _ _ _ _ _ _ (c .before .before .before .before .before .before .loop .inv .1) (c .before .before .before .wide16 .ensures .0) (c .put-turn .ensures))
 
 returns : tie.Need-returns Inv-loop μ-loop
 returns c = let h : c .before .loop .k ≡ c .before .before .args .depth = omega arith in rw (← h) (c .before .loop .inv .1)
@@ -56,7 +56,7 @@ fill-turns-spec =
     loop-holds
     mul-turn
     element-copy-out-turn
-    number-requires
+    wide16-requires
     mul-put-turn
     element-copy-out-put-turn
     put-turn-requires

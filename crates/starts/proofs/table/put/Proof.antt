@@ -1,7 +1,6 @@
 -- `put` meets its contract: the larger of the two is stored, or there already.
 use borrow.Author.Needs.{needs}
 use Rattle.starts.proofs.TableLaws.{put-stored, put-kept}
-use borrow.Author.Needs.{needs}
 use Rattle.starts.proofs.table.put.Statement.{statement}
 use Rattle.starts.proofs.table.put.Tie as tie
 

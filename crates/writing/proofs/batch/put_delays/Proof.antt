@@ -1,21 +1,24 @@
 -- Each turn of `put_delays` puts one delay line behind those before it.
 use Prim.Native.Nat.{_≤_, _-_}
-use mathlib.Core.Path.{ap}
+use mathlib.Core.Path.{ap, _∙_}
 use native.Mathlib.Omega.{arith}
 use borrow.Author.Needs.{needs}
-use lib.ListN.{length}
+use lib.ListN.{length, getD}
+use Rattle.model.specs.declared.Delay.{Delay}
 use Rattle.model.specs.Batch.{blankDelay, delayOf}
+use Rattle.model.specs.Format.{delayLine}
+use Rattle.lines.specs.Write.{overwritten}
 use Rattle.writing.proofs.Pieces.{Filled, filled-none, filled-more, filled-all}
 use Rattle.writing.proofs.Lengths.{delay-length}
-use Rattle.writing.proofs.Texts.{delayPiece, delays-text, delays-size}
+use Rattle.writing.proofs.Texts.{delays-text, delays-size}
 use Rattle.writing.proofs.batch.put_delays.Statement.{statement}
 use Rattle.writing.proofs.batch.put_delays.Tie as tie
 
 abbrev Inv-loop : tie.InvT-loop
-Inv-loop buffer₀ at batch m next₀ k₀ buffer next k = (k ≤ m) × Filled (delayPiece batch) buffer₀ at k next buffer
+Inv-loop buffer₀ at list m next₀ k₀ buffer next k = (k ≤ m) × Filled (λ i. delayLine (getD list i blankDelay)) buffer₀ at k next buffer
 
 abbrev μ-loop : tie.MeasureT-loop
-μ-loop buffer₀ at batch m next₀ k₀ buffer next k = m - k
+μ-loop buffer₀ at list m next₀ k₀ buffer next k = m - k
 
 wide-requires : tie.Need-wide-requires Inv-loop μ-loop
 wide-requires c κs = search needs
@@ -23,14 +26,12 @@ wide-requires c κs = search needs
 loop-holds : tie.Need-loop-holds Inv-loop μ-loop
 loop-holds c = (search needs, filled-none _ _ _)
 
-mul-delay : tie.Need-mul-delay Inv-loop μ-loop
-mul-delay c = search needs
-
-element-copy-out-delay : tie.Need-element-copy-out-delay Inv-loop μ-loop
-element-copy-out-delay c = search needs
+nth-delay-requires : tie.Need-nth-delay-requires Inv-loop μ-loop
+nth-delay-requires c κs = search needs
 
 put-delay-requires : tie.Need-put-delay-requires Inv-loop μ-loop
-put-delay-requires c κs = omega (arith, delays-size (c .before .before .before .before .before .before .args .t3) (c .before .before .before .loop .k))
+unfolding delayOf
+put-delay-requires c κs = omega (arith, delays-size (c .before .before .before .before .before .before .before .args .batch) (c .before .before .before .loop .k))
 
 add-k : tie.Need-add-k Inv-loop μ-loop
 add-k c = search needs
@@ -39,23 +40,26 @@ loop-less : tie.Need-loop-less Inv-loop μ-loop
 loop-less c = search needs
 
 loop-again : tie.Need-loop-again Inv-loop μ-loop
-unfolding delayOf blankDelay
+unfolding delayOf
 loop-again c =
-    let batch = c .before .before .before .before .before .before .before .before .before .args .t3 in
-    let put = c .before .before .put-delay .ensures in (
+    let batch = c .before .before .before .before .before .before .before .before .before .before .args .batch in
+    let put = c .before .before .put-delay .ensures in
+    let read = c .before .before .before .before .nth-delay .ensures in
+    let turn = c .before .before .before .before .before .before .loop in (
       search needs,
-      filled-more _ _ _ (batch .m) (omega (arith, delays-size batch (batch .m))) (c .before .before .before .before .before .before .loop .inv .1) (omega arith)
+      filled-more _ _ _ (batch .m) (omega (arith, delays-size batch (batch .m))) (turn .inv .1) (omega arith)
           (delay-length _)
           (put .0)
-          (put .1),
+          (put .1 ∙ ap (λ (q : Delay). overwritten (turn .buffer) (turn .next) (delayLine q)) read),
     )
 
 same-length : tie.Need-same-length Inv-loop μ-loop
 same-length c = c .before .loop .inv .1 .same-length
 
 returns : tie.Need-returns Inv-loop μ-loop
+unfolding delayOf
 returns c =
-    let batch = c .before .before .before .before .args .t3 in
+    let batch = c .before .before .before .before .before .args .batch in
     let all = filled-all _ _ _ (batch .m) _ (c .before .loop .inv .1) (omega arith) (delays-text batch) in
     (omega (arith, all .0, delays-size batch (batch .m), ap length (delays-text batch)), all .1)
 
@@ -67,8 +71,7 @@ put-delays-spec =
     μ-loop
     wide-requires
     loop-holds
-    mul-delay
-    element-copy-out-delay
+    nth-delay-requires
     put-delay-requires
     add-k
     loop-less

@@ -1,0 +1,44 @@
+-- Tests as equations: what a test that passes or fails gives, tests joined by &&, and a test as the code asks it.
+use Prim.Native.Nat.{ℕ}
+use mathlib.Core.Path.{_≡_, refl, sym, _∙_}
+use mathlib.Core.Bool.{Bool, true, false, not, _&&_}
+use native.Mathlib.Omega.{arith}
+use lib.Dec.{T}
+use borrow.Author.Tests.{not-true, not-false}
+
+-- a test is not both passed and failed
+pub apart : {X : Type 0} → false ≡ true → X
+apart e = let z : _≡_ {A = ℕ} 0 1 = cc in absurd (omega arith)
+
+-- both tests of a conjunction pass, and the other way
+pub both : (a b : Bool) → (a && b) ≡ true → (a ≡ true) × (b ≡ true)
+both true b e = (refl, e)
+both false b e = apart e
+
+pub and : {a b : Bool} → a ≡ true → b ≡ true → (a && b) ≡ true
+and p q = rw (p, q)
+
+-- a test as a type, and as an equation
+pub T-true : (b : Bool) → T b → b ≡ true
+T-true true t = refl
+T-true false t = absurd t
+
+pub true-T : {b : Bool} → b ≡ true → T b
+true-T e = rw e tt
+
+-- what does not pass fails
+pub decide : (p : Bool) → (p ≡ true → ⊥) → p ≡ false
+decide true h = absurd (h refl)
+decide false h = refl
+
+-- the second test fails, and so does the whole
+pub and-false : (a : Bool) → (a && false) ≡ false
+and-false true = refl
+and-false false = refl
+
+-- a test t that the code has as b, and asks as !b: it passes, or it fails
+pub passes : {b t : Bool} → b ≡ t → not b ≡ false → t ≡ true
+passes {b} e h = sym e ∙ not-false b h
+
+pub fails : {b t : Bool} → b ≡ t → not b ≡ true → t ≡ false
+fails {b} e h = sym e ∙ not-true b h
