@@ -69,23 +69,6 @@ code-back c r =
     same-clash (omega (arith, r .known, r .k-in)) (rw high (omega (arith, r .known)))
     (ap (λ (k : ℕ). subℕ k 15) low ∙ sym (r .distance))
 
--- its parts, as code reads them
-pub code-i : (c : Clash) → Ranged c → codeOf c / 1024 ≡ c .i
-unfolding clashOf
-code-i c r = ap (λ (c : Clash). c .i) (code-back c r)
-
-pub code-j : (c : Clash) → Ranged c → codeOf c / 32 % 32 ≡ c .j
-unfolding clashOf
-code-j c r = ap (λ (c : Clash). c .j) (code-back c r)
-
-pub code-d : (c : Clash) → Ranged c → subℕ (codeOf c % 32) 15 ≡ c .d
-unfolding clashOf
-code-d c r = ap (λ (c : Clash). c .d) (code-back c r)
-
--- it fits 16 bits
-pub code-small : (c : Clash) → Ranged c → codeOf c < 24576
-code-small c r = omega (arith, code-sum c r, r .rising, r .known, r .k-in)
-
 -- it names two jobs
 pub code-named : (c : Clash) → Ranged c → Named (codeOf c)
 code-named c r =

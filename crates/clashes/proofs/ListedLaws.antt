@@ -67,11 +67,6 @@ module _ (codes : List ℕ) (cs : List Clash) (ranged : (c : Clash) → List·Me
   pub codes-known : Known codes (length cs)
   codes-known = record { each = λ k h. rw (coded k h) (code-named (getD cs k noClash) (ranged (getD cs k noClash) (getD-in cs k noClash h))) }
 
-  -- the scan finds what the model does
-  pub first-codes : (ts : List ℕ) → firstCode codes (length cs) ts ≡ metOf (firstMet cs ts 0)
-  unfolding firstCode
-  first-codes ts = ap (λ (l : List Clash). metOf (firstMet l ts 0)) codes-in
-
 -- ---- what list_clashes returns
 
 -- the count is D

@@ -1,8 +1,9 @@
 -- The loop over the distances of a pair adds the pair's codes, and these are the codes of the model's clashes of the two jobs.
-use Prim.Native.Nat.{ℕ, _+_, _-_, _*_, _≤_, _<_}
+use Prim.Native.Nat.{ℕ, zero, suc, _+_, _-_, _*_, _≤_, _<_}
 use mathlib.Core.Path.{_≡_, refl, sym, ap, _∙_}
 use mathlib.Core.Bool.{Bool, true, false}
 use mathlib.Core.List.{List, map}
+use mathlib.Core.Logic.{inl, inr}
 use native.Mathlib.Omega.{arith}
 use lib.IntN.{ℤ, subℕ}
 use Rattle.model.specs.declared.Job.{Job}
@@ -17,6 +18,7 @@ use Rattle.clashes.specs.Tables.{tablesMeet}
 use Rattle.clashes.specs.List.{put, addAll, pairCodes, Grown}
 use Rattle.clashes.proofs.SeqLaws.{keep-map, map-map}
 use Rattle.clashes.proofs.CodeLaws.{lift-sub}
+use Rattle.clashes.proofs.TableLaws.{tables-apart}
 
 -- the codes from the distance k − 15 on
 unfoldable pub pairFrom : Job → Job → ℕ → ℕ → List ℕ
@@ -29,10 +31,15 @@ pub record Pairing (first second : Job) (base : ℕ) (from l : Clashes) (k : ℕ
   pub few : l .count ≤ from .count + k
   pub rest : addAll l (pairFrom first second base k) ≡ addAll from (pairCodes first second base)
 
--- before the first turn
-pub pair-none : (first second : Job) (base : ℕ) (l : Clashes) → Pairing first second base l l 0
+pair-none : (first second : Job) (base : ℕ) (l : Clashes) → Pairing first second base l l 0
 unfolding pairFrom pairCodes
 pair-none first second base l = record { within = omega arith; few = omega arith; rest = refl }
+
+-- with no distance left the pair is complete
+pair-end : (first second : Job) (base : ℕ) (from l : Clashes) (k : ℕ) → Pairing first second base from l k → 31 ≤ k → Grown from l (pairCodes first second base) 31
+unfolding addAll pairFrom keep
+pair-end first second base from l k p h =
+    record { all = rw (count-end k 31 h) at (p .rest); few = omega (arith, p .few, p .within) }
 
 module _ (first second : Job) (base : ℕ) (from l m : Clashes) (k : ℕ) (r : Bool) (p : Pairing first second base from l k) (h : k < 31) (e : r ≡ tablesMeet first second (subℕ k 15)) where
   -- one turn, which makes m of l
@@ -54,11 +61,28 @@ module _ (first second : Job) (base : ℕ) (from l m : Clashes) (k : ℕ) (r : B
       turn (omega (arith, ap (λ (x : Clashes). x .count) q))
       (ap (λ (x : Clashes). addAll x (pairFrom first second base (k + 1))) q ∙ (rw (count-more k 31 h, sym e ∙ t)))
 
--- after the last turn the pair is complete
-pub pair-end : (first second : Job) (base : ℕ) (from l : Clashes) (k : ℕ) → Pairing first second base from l k → 31 ≤ k → Grown from l (pairCodes first second base) 31
-unfolding addAll pairFrom keep
-pair-end first second base from l k p h =
-    record { all = rw (count-end k 31 h) at (p .rest); few = omega (arith, p .few, p .within) }
+-- distances at which the tables do not meet are passed over
+pair-skip : (first second : Job) (base : ℕ) (from l : Clashes) (k n : ℕ) → Pairing first second base from l k → k + n ≤ 31 → ((x : ℕ) → k ≤ x → x < k + n → tablesMeet first second (subℕ x 15) ≡ false)
+    → Pairing first second base from l (k + n)
+pair-skip first second base from l k zero p h f = let e : k + 0 ≡ k = omega arith in rw e p
+pair-skip first second base from l k (suc n) p h f =
+    let e : k + suc n ≡ k + n + 1 = omega arith in
+    rw e
+    (pair-out first second base from l l (k + n) _ (pair-skip first second base from l k n p (omega arith) (λ x a b. f x a (omega arith))) (omega arith) refl (f (k + n) (omega arith) (omega arith))
+    refl)
+
+-- before the first turn: the distances that are too far below
+pub pair-first : (first second : Job) (base : ℕ) (l : Clashes) (k : ℕ) → k ≡ 16 - second .ticks → Pairing first second base l l k
+pair-first first second base l k e =
+    let z : 0 + k ≡ k = omega arith in
+    rw z at (pair-skip first second base l l 0 k (pair-none first second base l) (omega arith) (λ x a b. tables-apart first second x (inl (omega arith))))
+
+-- after the last turn: those that are too far above, and the pair is complete
+pub pair-last : (first second : Job) (base : ℕ) (from l : Clashes) (k : ℕ) → Pairing first second base from l k → 15 + first .ticks ≤ k → Grown from l (pairCodes first second base) 31
+pair-last first second base from l k p h =
+    let e : k + (31 - k) ≡ 31 = omega (arith, p .within) in
+    pair-end first second base from l 31
+    (rw e at (pair-skip first second base from l k (31 - k) p (omega (arith, p .within)) (λ x a b. tables-apart first second x (inr (omega arith))))) (omega arith)
 
 -- the clashes of two jobs of a batch, from their tables
 pub pair-codes : (b : Batch) (i j : ℕ) → pairCodes (jobOf b i) (jobOf b j) (i * 1024 + j * 32) ≡ map codeOf (clashesOf b i j)

@@ -1,6 +1,7 @@
 -- Two tables meet at a distance exactly when one of the ticks that lie over each other shares a station.
 use Prim.Native.Nat.{ℕ, _+_, _-_, _≤_, _<_, min}
-use mathlib.Core.Path.{_≡_, sym, ap, _∙_}
+use mathlib.Core.Path.{_≡_, refl, sym, ap, _∙_}
+use mathlib.Core.Logic.{_⊎_, ⊎-elim}
 use mathlib.Core.Bool.{Bool, true, false, _&&_}
 use native.Mathlib.Omega.{arith}
 use native.Mathlib.Decide.{ℕ-discrete}
@@ -65,3 +66,8 @@ tables-clear first second k x end ends l h =
         let d : a + 15 ≡ k + c = sub-sum a c k 15 (eqZ-eq (subℕ a c) (subℕ k 15) e) in
         let q : a + 15 - k ≡ c = omega arith in
         apart (sym (l .none a (omega arith) (omega arith)) ∙ (rw q m))
+
+-- further apart than their ticks reach, they do not
+pub tables-apart : (first second : Job) (k : ℕ) → (second .ticks + k ≤ 15) ⊎ (15 + first .ticks ≤ k) → tablesMeet first second (subℕ k 15) ≡ false
+tables-apart first second k h =
+    sym (tables-clear first second k (k - 15) (min (first .ticks) (second .ticks + k - 15)) refl (clear-none first second k (k - 15) refl) (⊎-elim (λ (g : second .ticks + k ≤ 15). omega arith) (λ (g : 15 + first .ticks ≤ k). omega arith) h))

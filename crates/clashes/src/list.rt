@@ -20,15 +20,16 @@ fn put_code(codes: &mut [u16; 1024], count: usize, code: usize) -> usize
     count + 1
 }
 
-// Adds the clashes of two jobs, by rising distance; base is i * 1024 + j * 32.
+// Adds the clashes of two jobs, by rising distance; base is i * 1024 + j * 32. Further apart than their ticks reach, the tables do not meet.
 fn add_pair(codes: &mut [u16; 1024], count: usize, first: Job, second: Job, base: usize) -> usize
     requires { ⌜ (first .ticks ≤ 16) × (second .ticks ≤ 16) ⌝ }
     requires { ⌜ (count ≤ 20000) × (base ≤ 24576) ⌝ }
     ensures { λ r. ⌜ Grown (listing count (now (codes .entry))) (listing r (now (codes .exit))) (pairCodes first second base) 31 ⌝ }
 {
+    let end = 15 + wide(first.ticks);
     let mut at = count;
-    let mut k: usize = 0;
-    while k < 31 {
+    let mut k = 16 - wide(second.ticks);
+    while k < end {
         if tables_meet(first, second, k) {
             at = put_code(codes, at, base + k);
         }

@@ -56,6 +56,6 @@ unfoldable pub entry : List Delay → ℕ → ℕ → Option ℤ
 entry [] i j = none
 entry (q ∷ qs) i j = if eqb (q .from) i && eqb (q .to) j then some (heavier (q .weight) (entry qs i j)) else entry qs i j
 
--- 24 rows of 24 weights: row j has what ends in job j
+-- 24 rows of 24 weights: row i has what starts in job i
 unfoldable pub table : List Delay → List (List (Option ℤ))
-table qs = map (λ j. map (λ i. entry qs i j) (count 0 mostJobs)) (count 0 mostJobs)
+table qs = map (λ i. map (λ j. entry qs i j) (count 0 mostJobs)) (count 0 mostJobs)

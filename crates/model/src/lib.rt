@@ -1,9 +1,11 @@
-// The types that every room shares, small numbers as indices, and the record that an accepted opening starts from.
+// The types that every room shares, small numbers as indices, and the record that an accepted opening starts from. What stands in the record
+// of the C boundary too has C's layout.
 ghost use mathlib.Core.Path.{_≡_};
 ghost use Prim.Native.Nat.{_<_};
 ghost use Rattle.model.specs.Search.{freshSearch};
 
 // A delay: `to` starts at least `weight` ticks after `from`.
+#[repr(C)]
 pub struct Delay {
     pub from: u8,
     pub to: u8,
@@ -11,12 +13,14 @@ pub struct Delay {
 }
 
 // A job's reservation table: bit s of masks[a] is set where the job holds station s in its tick a.
+#[repr(C)]
 pub struct Job {
     pub ticks: u8,
     pub masks: [u16; 16],
 }
 
 // The first n jobs and the first m delays count; the other places are never looked at.
+#[repr(C)]
 pub struct Batch {
     pub n: u8,
     pub m: u8,
@@ -25,6 +29,7 @@ pub struct Batch {
 }
 
 // A branching decision: the clash's number in the batch's list, and the side that is taken.
+#[repr(C)]
 pub struct Turn {
     pub clash: u16,
     pub side: u8,

@@ -9,7 +9,7 @@ use model::Search;
 use starts::delays::Delays;
 use starts::delays::delays_of;
 use starts::delays::ticks_of;
-use starts::met::delays_met;
+use starts::met::read_delays_met;
 ghost use mathlib.Core.Path.{_≡_};
 ghost use mathlib.Core.Bool.{false};
 ghost use Rattle.model.specs.Sound.{sound};
@@ -64,7 +64,8 @@ pub fn examine(search: Search) -> Examined
     if 1024 < count {
         return unsound();
     }
-    if !delays_met(batch) {
+    let delays = delays_of(batch);
+    if !read_delays_met(batch, delays) {
         return unsound();
     }
     let path = search.path;
@@ -73,7 +74,7 @@ pub fn examine(search: Search) -> Examined
     Examined {
         sound: state_ok(search, route),
         clashes: clashes,
-        delays: delays_of(batch),
+        delays: delays,
         ticks: ticks_of(batch),
         turns: turns,
         depth: route.depth,

@@ -61,6 +61,15 @@ filled-is f size k h =
     go i (no p) e =
         filled-past f size k i (omega arith) ∙ sym (pad-at size 0 (map f (count 0 k)) i ∙ List·getD-eq-default (map f (count 0 k)) 0 (omega arith))
 
+-- where f is 0 past k, filling all places is filling k
+pub filled-rest : (f : ℕ → ℕ) (size k : ℕ) → k ≤ size → ((i : ℕ) → k ≤ i → f i ≡ 0) → filled f size size ≡ filled f size k
+filled-rest f size k h z =
+    ext-getD 0 (filled f size size) (filled f size k) (filled-length f size size ∙ sym (filled-length f size k)) (λ i p. filled-at f size size i (omega arith) (omega (arith, filled-length f size size)) ∙ sym (go i (decLt i k)))
+  where
+    go : (i : ℕ) → Dec (i < k) → getD (filled f size k) i 0 ≡ f i
+    go i (yes p) = filled-at f size k i h p
+    go i (no p) = filled-past f size k i (omega arith) ∙ sym (z i (omega arith))
+
 -- ---- bounds
 
 -- what holds of each element, and of a, holds of each after a store of a

@@ -1,11 +1,10 @@
 -- The latency by the arrays is the latency of the definitions.
-use mathlib.Core.Path.{_≡_, refl, sym, ap}
+use mathlib.Core.Path.{_≡_, refl, ap}
 use mathlib.Core.List.{List, [], _∷_, _++_, map, foldr}
 use Prim.Native.Nat.{ℕ, zero, suc, _+_, _≤_, _<_, max}
 use native.Mathlib.Omega.{arith}
 use native.Mathlib.Numerals.{add-one}
-use lib.ListN.{getD, take}
-use lib.Seq.{getD-take}
+use lib.ListN.{getD}
 use Rattle.model.specs.declared.Batch.{Batch}
 use Rattle.model.specs.Common.{count, pad}
 use Rattle.model.specs.Batch.{ticks}
@@ -59,9 +58,6 @@ module _ (b : Batch) (few : b .n ≤ 24) (ss : List ℕ) where
   pub latency-law : (ts : List ℕ) → ((i : ℕ) → i < b .n → getD ss i 0 ≡ getD ts i 0) → latencyOf (ticksRead b) ss (b .n) ≡ latency b ts
   unfolding latency
   latency-law ts h = latency-to ts h (b .n) (omega arith)
-
-  pub latency-take : latencyOf (ticksRead b) ss (b .n) ≡ latency b (take (b .n) ss)
-  latency-take = latency-law (take (b .n) ss) (λ i p. sym (getD-take (b .n) ss i 0 p))
 
 pub latency-padded : (b : Batch) → b .n ≤ 24 → (ts : List ℕ) → latencyOf (ticksRead b) (pad 24 0 ts) (b .n) ≡ latency b ts
 latency-padded b few ts = latency-law b few (pad 24 0 ts) ts (λ i p. pad-at 24 0 ts i)

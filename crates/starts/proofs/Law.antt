@@ -3,7 +3,7 @@
 use mathlib.Core.Path.{_≡_, refl, sym, _∙_, ap}
 use mathlib.Core.Option.{Option, none, some}
 use mathlib.Core.List.{List, [], _∷_, _++_, map, append-assoc, append-nil}
-use Prim.Native.Nat.{ℕ, zero, suc, _/_, _%_, _≤_, _<_}
+use Prim.Native.Nat.{ℕ, zero, suc, _+_, _*_, _/_, _%_, _≤_, _<_}
 use native.Mathlib.Omega.{arith}
 use lib.ListN.{length, getD, take, length-map, List·getD-map}
 use lib.Seq.{take-suc, take-length, ext-getD}
@@ -108,22 +108,29 @@ pub table-is : (n : ℕ) (t : List (List ℕ)) (qs : List Delay) → Tabled n t 
 unfolding table codeAt placeCode
 table-is n t qs h =
     ext-getD [] t (map (map placeCode) (table qs)) (h .rows ∙ sym (length-map (table qs) (map placeCode) ∙ listed-length line 24))
-    (λ j p. row j (omega (arith, h .rows)))
+    (λ i p. row i (omega (arith, h .rows)))
   where
-    -- row j of the definition's table
+    -- row i of the definition's table
     line : ℕ → List (Option ℤ)
-    line j = map (λ i. entry qs i j) (count 0 24)
+    line i = map (λ j. entry qs i j) (count 0 24)
 
-    long : (j : ℕ) → length (map placeCode (line j)) ≡ 24
-    long j = length-map (line j) placeCode ∙ listed-length (λ i. entry qs i j) 24
+    long : (i : ℕ) → length (map placeCode (line i)) ≡ 24
+    long i = length-map (line i) placeCode ∙ listed-length (λ j. entry qs i j) 24
 
-    row : (j : ℕ) → j < 24 → getD t j [] ≡ getD (map (map placeCode) (table qs)) j []
-    row j p =
-        ext-getD 0 (getD t j []) (map placeCode (line j)) (h .wide j p ∙ sym (long j))
-        (λ i q.
-        h .place i j (omega (arith, h .wide j p)) p
-        ∙ sym (List·getD-map placeCode (line j) i none ∙ ap placeCode (listed-at (λ i. entry qs i j) none 24 i (omega (arith, h .wide j p)))))
-        ∙ sym (List·getD-map (map placeCode) (table qs) j [] ∙ ap (map placeCode) (listed-at line [] 24 j p))
+    row : (i : ℕ) → i < 24 → getD t i [] ≡ getD (map (map placeCode) (table qs)) i []
+    row i p =
+        ext-getD 0 (getD t i []) (map placeCode (line i)) (h .wide i p ∙ sym (long i))
+        (λ j q.
+        h .place i j p (omega (arith, h .wide i p))
+        ∙ sym (List·getD-map placeCode (line i) j none ∙ ap placeCode (listed-at (λ j. entry qs i j) none 24 j (omega (arith, h .wide i p)))))
+        ∙ sym (List·getD-map (map placeCode) (table qs) i [] ∙ ap (map placeCode) (listed-at line [] 24 i p))
+
+-- fours of rows that have n rows and no more than 24
+fours-low : (n : ℕ) → n ≤ 4 * ((n + 3) / 4)
+fours-low n = omega arith
+
+pub fours-high : (n : ℕ) → n ≤ 24 → 4 * ((n + 3) / 4) ≤ 24
+fours-high n h = omega arith
 
 -- the least starts of the delays and the turns
 pub least-law : (b : Batch) (cs : List Clash) (ts : List Turn) (froms tos codes clashes turns : List ℕ) → 1 ≤ b .n → b .n ≤ 24 → HoldsDelays b froms tos codes → HoldsTurns (b .n) cs ts clashes turns
@@ -132,14 +139,14 @@ unfolding leastOf startsAt inequalities delaysOf
 least-law b cs ts froms tos codes clashes turns one few hd ht =
     let d = delays-tabled b few froms tos codes hd (b .m) (omega arith) in
     let e : map (turned cs) (take (length ts) ts) ≡ map (turned cs) ts = ap (map (turned cs)) (take-length ts) in
-    settled-is (b .n) few _ _ (rw e at (turns-tabled (b .n) few cs ts clashes turns ht _ _ d (length ts) (omega arith))) one
+    settled-is (b .n) few _ _ (rw e at (turns-tabled (b .n) few cs ts clashes turns ht _ _ d (length ts) (omega arith))) _ (fours-low (b .n)) (fours-high (b .n) few) one
 
 -- with no turns: the least starts of the delays alone
 pub least-delays : (b : Batch) (froms tos codes clashes turns : List ℕ) → 1 ≤ b .n → b .n ≤ 24 → HoldsDelays b froms tos codes
     → leastOf (b .n) (b .m) froms tos codes clashes turns 0 ≡ leastAs (leastStarts (b .n) (delaysOf b))
 unfolding leastOf delaysOf withTurns
 least-delays b froms tos codes clashes turns one few h =
-    settled-is (b .n) few _ _ (delays-tabled b few froms tos codes h (b .m) (omega arith)) one
+    settled-is (b .n) few _ _ (delays-tabled b few froms tos codes h (b .m) (omega arith)) _ (fours-low (b .n)) (fours-high (b .n) few) one
 
 -- there are least starts exactly where the definitions have some
 pub found-is : (o : Option (List ℕ)) → leastAs o .found ≡ isSome o

@@ -66,8 +66,8 @@ code-snoc (p ∷ qs) q i j =
 -- a table of 24 rows of 24 places that holds inequalities between n jobs
 pub record Tabled (n : ℕ) (t : List (List ℕ)) (qs : List Delay) : Type 0 where
   pub rows : length t ≡ 24
-  pub wide : (j : ℕ) → j < 24 → length (getD t j []) ≡ 24
-  pub place : (i j : ℕ) → i < 24 → j < 24 → getD (getD t j []) i 0 ≡ codeAt qs i j
+  pub wide : (i : ℕ) → i < 24 → length (getD t i []) ≡ 24
+  pub place : (i j : ℕ) → i < 24 → j < 24 → getD (getD t i []) j 0 ≡ codeAt qs i j
   pub fits : (q : Delay) → List·Memᴰ q qs → Fits n q
 
 pub empty-tabled : (n : ℕ) → Tabled n emptyTable []
@@ -75,8 +75,8 @@ unfolding emptyTable codeAt entry placeCode
 empty-tabled n =
     record {
       rows = refl;
-      wide = λ j h. ap length (getD-replicate 24 j (replicate 24 0) [] h);
-      place = λ i j g h. ap (λ (r : List ℕ). getD r i 0) (getD-replicate 24 j (replicate 24 0) [] h) ∙ getD-replicate 24 i 0 0 g;
+      wide = λ i h. ap length (getD-replicate 24 i (replicate 24 0) [] h);
+      place = λ i j g h. ap (λ (r : List ℕ). getD r j 0) (getD-replicate 24 i (replicate 24 0) [] g) ∙ getD-replicate 24 j 0 0 h;
       fits = λ q m. absurd (List·Memᴰ·not-nil m);
     }
 
@@ -86,9 +86,9 @@ module _ (n : ℕ) (few : n ≤ 24) (t : List (List ℕ)) (qs : List Delay) (h :
   unfolding putIn kept
   put-tabled =
       record {
-        rows = length-set t (q .to) row ∙ h .rows;
-        wide = λ j b. wide j b (ℕ-discrete j (q .to));
-        place = λ i j a b. at i j a b (ℕ-discrete j (q .to)) (ℕ-discrete i (q .from)) ∙ sym (code-snoc qs q i j);
+        rows = length-set t (q .from) row ∙ h .rows;
+        wide = λ i a. wide i a (ℕ-discrete i (q .from));
+        place = λ i j a b. at i j a b (ℕ-discrete i (q .from)) (ℕ-discrete j (q .to)) ∙ sym (code-snoc qs q i j);
         fits = λ p m. fit p (List·Memᴰ·append-cases qs m);
       }
     where
@@ -99,33 +99,33 @@ module _ (n : ℕ) (few : n ≤ 24) (t : List (List ℕ)) (qs : List Delay) (h :
       from24 = omega (arith, f .from)
 
       old : List ℕ
-      old = getD t (q .to) []
+      old = getD t (q .from) []
 
       row : List ℕ
-      row = set old (q .from) (max (getD old (q .from) 0) (coded (q .weight)))
+      row = set old (q .to) (max (getD old (q .to) 0) (coded (q .weight)))
 
-      wide : (j : ℕ) → j < 24 → Dec (j ≡ q .to) → length (getD (set t (q .to) row) j []) ≡ 24
-      wide j b (yes e) =
-          rw e (ap length (getD-set-same t (q .to) row [] (omega (arith, h .rows, f .to))) ∙ length-set old (q .from) _ ∙ h .wide (q .to) to24)
-      wide j b (no e) = ap length (getD-set-other t (q .to) j row [] e) ∙ h .wide j b
+      wide : (i : ℕ) → i < 24 → Dec (i ≡ q .from) → length (getD (set t (q .from) row) i []) ≡ 24
+      wide i a (yes e) =
+          rw e (ap length (getD-set-same t (q .from) row [] (omega (arith, h .rows, f .from))) ∙ length-set old (q .to) _ ∙ h .wide (q .from) from24)
+      wide i a (no e) = ap length (getD-set-other t (q .from) i row [] e) ∙ h .wide i a
 
-      at : (i j : ℕ) → i < 24 → j < 24 → Dec (j ≡ q .to) → Dec (i ≡ q .from)
-          → getD (getD (set t (q .to) row) j []) i 0 ≡ kept (eqb (q .from) i && eqb (q .to) j) (coded (q .weight)) (codeAt qs i j)
+      unkept : (b : Bool) (x : ℕ) → kept (b && false) (coded (q .weight)) x ≡ x
+      unkept true x = refl
+      unkept false x = refl
+
+      at : (i j : ℕ) → i < 24 → j < 24 → Dec (i ≡ q .from) → Dec (j ≡ q .to)
+          → getD (getD (set t (q .from) row) i []) j 0 ≡ kept (eqb (q .from) i && eqb (q .to) j) (coded (q .weight)) (codeAt qs i j)
       at i j a b (yes e) (yes g) =
           rw (e, g, eq-eqb (q .from) (q .from) refl, eq-eqb (q .to) (q .to) refl)
-          (ap (λ (r : List ℕ). getD r (q .from) 0) (getD-set-same t (q .to) row [] (omega (arith, h .rows, f .to)))
-          ∙ getD-set-same old (q .from) _ 0 (omega (arith, h .wide (q .to) to24, f .from))
+          (ap (λ (r : List ℕ). getD r (q .to) 0) (getD-set-same t (q .from) row [] (omega (arith, h .rows, f .from)))
+          ∙ getD-set-same old (q .to) _ 0 (omega (arith, h .wide (q .from) from24, f .to))
           ∙ omega (arith, h .place (q .from) (q .to) from24 to24))
       at i j a b (yes e) (no g) =
-          rw (e, ne-eqb (q .from) i (λ s. g (sym s)))
-          (ap (λ (r : List ℕ). getD r i 0) (getD-set-same t (q .to) row [] (omega (arith, h .rows, f .to)))
-          ∙ getD-set-other old (q .from) i _ 0 g ∙ h .place i (q .to) a to24)
+          rw (e, ne-eqb (q .to) j (λ s. g (sym s)))
+          (ap (λ (r : List ℕ). getD r j 0) (getD-set-same t (q .from) row [] (omega (arith, h .rows, f .from)))
+          ∙ getD-set-other old (q .to) j _ 0 g ∙ h .place (q .from) j from24 b ∙ sym (unkept (eqb (q .from) (q .from)) (codeAt qs (q .from) j)))
       at i j a b (no e) g =
-          rw (ne-eqb (q .to) j (λ s. e (sym s))) (ap (λ (r : List ℕ). getD r i 0) (getD-set-other t (q .to) j row [] e) ∙ h .place i j a b ∙ sym (none (eqb (q .from) i)))
-        where
-          none : (b : Bool) → kept (b && false) (coded (q .weight)) (codeAt qs i j) ≡ codeAt qs i j
-          none true = refl
-          none false = refl
+          rw (ne-eqb (q .from) i (λ s. e (sym s))) (ap (λ (r : List ℕ). getD r j 0) (getD-set-other t (q .from) i row [] e) ∙ h .place i j a b)
 
       fit : (p : Delay) → List·Memᴰ p qs ⊎ List·Memᴰ p (q ∷ []) → Fits n p
       fit p (inl m) = h .fits p m

@@ -1,4 +1,4 @@
--- A round by the table is a round by the list of inequalities: start j by row j is the definition's raised start, and no round raises
+-- A round by the table is a round by the list of inequalities: start j by column j is the definition's raised start, and no round raises
 -- a start by more than 1,000.
 use mathlib.Core.Path.{_≡_, refl, _∙_, ap}
 use mathlib.Core.Bool.{Bool, true, false, _&&_}
@@ -9,7 +9,7 @@ use native.Mathlib.Omega.{arith}
 use native.Mathlib.Decide.{decLt}
 use lib.Dec.{eqb}
 use lib.ListN.{length, getD, length-map, length-replicate, List·getD-eq-default}
-use borrow.Author.Tests.{eqb-true, eq-eqb}
+use borrow.Author.Tests.{eqb-true, eq-eqb, ne-eqb}
 use Rattle.model.specs.declared.Delay.{Delay}
 use Rattle.model.specs.Common.{if_then_else_, count}
 use Rattle.model.specs.Starts.{plus, raised, rounds, firstStarts}
@@ -17,27 +17,27 @@ use Rattle.model.proofs.ListLaws.{count-length}
 use Rattle.model.proofs.SeqLaws.{listed-at, blanks-at}
 use Rattle.model.proofs.StartsLaws.{raised-old}
 use Rattle.starts.specs.Code.{coded, Limited, Fits}
-use Rattle.starts.specs.Rounds.{largest, startOf}
+use Rattle.starts.specs.Rounds.{sumAt, largest, startOf}
 use Rattle.starts.proofs.CodeLaws.{plus-coded, coded-most}
 use Rattle.starts.proofs.RoundLaws.{largest-first}
 use Rattle.starts.proofs.PlaceLaws.{codeAt, kept, code-cons}
 
--- ---- the largest of a row
+-- ---- the largest of a column
 
-largest-at : (row old : List ℕ) (first k i : ℕ) → i < k → getD old i 0 + getD row i 0 ≤ largest row old first k
+largest-at : (table : List (List ℕ)) (old : List ℕ) (j first k i : ℕ) → i < k → sumAt table old j i ≤ largest table old j first k
 unfolding largest
-largest-at row old first zero i h = absurd (omega arith)
-largest-at row old first (suc k) i h = go (decLt i k) (largest-at row old first k i)
+largest-at table old j first zero i h = absurd (omega arith)
+largest-at table old j first (suc k) i h = go (decLt i k) (largest-at table old j first k i)
   where
-    go : Dec (i < k) → (i < k → getD old i 0 + getD row i 0 ≤ largest row old first k) → getD old i 0 + getD row i 0 ≤ max (largest row old first k) (getD old k 0 + getD row k 0)
+    go : Dec (i < k) → (i < k → sumAt table old j i ≤ largest table old j first k) → sumAt table old j i ≤ max (largest table old j first k) (sumAt table old j k)
     go (yes p) rec = omega (arith, rec p)
     go (no p) rec = let e : i ≡ k = omega arith in rw e (omega arith)
 
-largest-below : (row old : List ℕ) (first k x : ℕ) → first ≤ x → ((i : ℕ) → i < k → getD old i 0 + getD row i 0 ≤ x) → largest row old first k ≤ x
+largest-below : (table : List (List ℕ)) (old : List ℕ) (j first k x : ℕ) → first ≤ x → ((i : ℕ) → i < k → sumAt table old j i ≤ x) → largest table old j first k ≤ x
 unfolding largest
-largest-below row old first zero x h f = h
-largest-below row old first (suc k) x h f =
-    omega (arith, f k (omega arith), largest-below row old first k x h (λ i p. f i (omega arith)))
+largest-below table old j first zero x h f = h
+largest-below table old j first (suc k) x h f =
+    omega (arith, f k (omega arith), largest-below table old j first k x h (λ i p. f i (omega arith)))
 
 -- ---- the definition's raised start, over starts below 30,000
 
@@ -88,17 +88,25 @@ module _ (n : ℕ) (old : List ℕ) (low : (i : ℕ) → getD old i 0 < 30000) (
           let fit : Fits n q = f q (List·Memᴰ·head refl) in
           omega (arith, own e, g (q .from) (fit .from), plus-coded (getD old (q .from) 0) (q .weight) (fit .weight))
 
-  -- start j by the row of what ends in it
-  pub start-raised : (qs : List Delay) → ((q : Delay) → List·Memᴰ q qs → Fits n q) → (row : List ℕ) → ((i : ℕ) → i < n → getD row i 0 ≡ codeAt qs i j) → startOf row old j n ≡ raised qs old j
-  unfolding startOf
-  start-raised qs f row e =
-      let up : largest row old (getD old j 0 + 30000) n ≤ raised qs old j + 30000 =
-      largest-below row old (getD old j 0 + 30000) n (raised qs old j + 30000) (omega (arith, raised-old qs old j))
+  -- start j by the column of what ends in it, over at least n rows
+  pub start-raised : (qs : List Delay) → ((q : Delay) → List·Memᴰ q qs → Fits n q) → (table : List (List ℕ)) (k : ℕ) → n ≤ k → ((i : ℕ) → i < k → getD (getD table i []) j 0 ≡ codeAt qs i j)
+      → startOf table old j k ≡ raised qs old j
+  unfolding startOf sumAt
+  start-raised qs f table k b e =
+      let up : largest table old j (getD old j 0 + 30000) k ≤ raised qs old j + 30000 =
+      largest-below table old j (getD old j 0 + 30000) k (raised qs old j + 30000) (omega (arith, raised-old qs old j))
       (λ i p. omega (arith, place-below qs f i, e i p)) in
-      let down : raised qs old j + 30000 ≤ largest row old (getD old j 0 + 30000) n =
-      raised-below qs f (largest row old (getD old j 0 + 30000) n) (largest-first row old (getD old j 0 + 30000) n)
-      (λ i p. omega (arith, largest-at row old (getD old j 0 + 30000) n i p, e i p)) in
+      let down : raised qs old j + 30000 ≤ largest table old j (getD old j 0 + 30000) k =
+      raised-below qs f (largest table old j (getD old j 0 + 30000) k) (largest-first table old j (getD old j 0 + 30000) k)
+      (λ i p. omega (arith, largest-at table old j (getD old j 0 + 30000) k i (omega arith), e i (omega arith))) in
       omega arith
+
+-- no inequality ends past n
+pub raised-past : (n : ℕ) (qs : List Delay) → ((q : Delay) → List·Memᴰ q qs → Fits n q) → (old : List ℕ) (j : ℕ) → n ≤ j → raised qs old j ≡ getD old j 0
+unfolding raised if_then_else_
+raised-past n [] f old j h = refl
+raised-past n (q ∷ qs) f old j h =
+    rw (ne-eqb (q .to) j (λ e. omega (arith, f q (List·Memᴰ·head refl) .to))) (raised-past n qs (λ p m. f p (List·Memᴰ·tail m)) old j h)
 
 -- only what the starts are at each place matters
 pub raised-cong : (qs : List Delay) (a b : List ℕ) → ((i : ℕ) → getD a i 0 ≡ getD b i 0) → (j : ℕ) → raised qs a j ≡ raised qs b j

@@ -1,66 +1,98 @@
--- Rounds as the code takes them: one place, one job, one round more, and no start rises by more than 1,000 in a round.
-use mathlib.Core.Path.{_≡_, refl, sym, _∙_}
+-- Rounds as the code takes them: four rows, one round, one round more, and no start rises by more than 1,000 in a round.
+use mathlib.Core.Path.{_≡_, refl, sym, _∙_, ap}
 use mathlib.Core.Bool.{Bool, true, false}
-use mathlib.Core.List.{List, []}
+use mathlib.Core.List.{List}
 use mathlib.Core.Logic.{⊎-elim}
 use Prim.Native.Nat.{ℕ, zero, suc, _+_, _*_, _-_, _≤_, _<_, max}
 use native.Mathlib.Nat.{eq-or-lt-of-le, not-suc-le-zero}
 use native.Mathlib.Numerals.{add-one, sub-one}
 use native.Mathlib.Omega.{arith}
 use lib.Dec.{eqb}
-use lib.ListN.{getD, set, replicate}
+use lib.ListN.{getD, replicate}
 use Rattle.model.specs.Common.{if_then_else_}
 use Rattle.model.proofs.BoolLaws.{and-false}
 use Rattle.starts.specs.declared.Least.{Least}
-use Rattle.starts.specs.Rounds.{Small, SmallRows, largest, startOf, roundOf, sameTo, leastFrom}
-use Rattle.starts.proofs.FillLaws.{filled-none, filled-more, filled-small, small-more}
+use Rattle.starts.specs.Rounds.{Small, SmallRows, Lifted, sumAt, largest, startOf, roundOf, raisedTo, liftedOf, loweredOf, fourRaised, sameTo, leastFrom}
+use Rattle.starts.proofs.FillLaws.{filled-at, filled-cong, filled-small, small-more}
 
 -- ---- one start
 
-pub largest-none : (row old : List ℕ) (first : ℕ) → largest row old first 0 ≡ first
+pub largest-first : (table : List (List ℕ)) (old : List ℕ) (j first k : ℕ) → first ≤ largest table old j first k
 unfolding largest
-largest-none row old first = refl
+largest-first table old j first zero = omega arith
+largest-first table old j first (suc k) = omega (arith, largest-first table old j first k)
 
-pub largest-more : (row old : List ℕ) (first k : ℕ) → largest row old first (k + 1) ≡ max (largest row old first k) (getD old k 0 + getD row k 0)
-unfolding largest
-largest-more row old first k = rw (add-one k)
-
-pub largest-first : (row old : List ℕ) (first k : ℕ) → first ≤ largest row old first k
-unfolding largest
-largest-first row old first zero = omega arith
-largest-first row old first (suc k) = omega (arith, largest-first row old first k)
-
-pub largest-small : (row old : List ℕ) (first b k : ℕ) → Small row 31000 → Small old b → first ≤ b + 31000 → largest row old first k ≤ b + 31000
-unfolding largest
-largest-small row old first b zero p q h = h
-largest-small row old first b (suc k) p q h =
-    omega (arith, largest-small row old first b k p q h, p .each k, q .each k)
-
--- the code's result: the largest, less 30,000
-pub start-is : (row old : List ℕ) (j n i best : ℕ) → best ≡ largest row old (getD old j 0 + 30000) i → i ≡ n → best - 30000 ≡ startOf row old j n
-unfolding startOf
-start-is row old j n i best e h = rw (e, h)
+largest-small : (table : List (List ℕ)) (old : List ℕ) (j first b k : ℕ) → SmallRows table → Small old b → first ≤ b + 31000 → largest table old j first k ≤ b + 31000
+unfolding largest sumAt
+largest-small table old j first b zero p q h = h
+largest-small table old j first b (suc k) p q h =
+    omega (arith, largest-small table old j first b k p q h, p .row k .each j, q .each k)
 
 -- a round raises a start by at most 1,000
-pub start-small : (row old : List ℕ) (j n b : ℕ) → Small row 31000 → Small old b → startOf row old j n ≤ b + 1000
+start-small : (table : List (List ℕ)) (old : List ℕ) (j k b : ℕ) → SmallRows table → Small old b → startOf table old j k ≤ b + 1000
 unfolding startOf
-start-small row old j n b p q =
-    omega (arith, largest-small row old (getD old j 0 + 30000) b n p q (omega (arith, q .each j)))
+start-small table old j k b p q =
+    omega (arith, largest-small table old j (getD old j 0 + 30000) b k p q (omega (arith, q .each j)))
 
 -- ---- one round
 
-pub round-none : (table : List (List ℕ)) (old : List ℕ) (n : ℕ) → replicate 24 0 ≡ roundOf table old n 0
-unfolding roundOf
-round-none table old n = filled-none _ 24
+max-assoc : (x y z : ℕ) → max x (max y z) ≡ max (max x y) z
+max-assoc x y z = omega arith
 
-pub round-more : (table : List (List ℕ)) (old new : List ℕ) (n j v : ℕ) → new ≡ roundOf table old n j → v ≡ startOf (getD table j []) old j n → set new j v ≡ roundOf table old n (j + 1)
-unfolding roundOf
-round-more table old new n j v e p = filled-more _ 24 j v new e p
+max-four : (x a b c d : ℕ) → max x (max (max a b) (max c d)) ≡ max (max (max (max x a) b) c) d
+max-four x a b c d = rw (max-assoc x (max a b) (max c d), max-assoc x a b, max-assoc (max (max x a) b) c d)
 
-pub round-small : (table : List (List ℕ)) (old : List ℕ) (n b : ℕ) → SmallRows table → Small old b → Small (roundOf table old n n) (b + 1000)
-unfolding roundOf
-round-small table old n b p q =
-    filled-small (λ j. startOf (getD table j []) old j n) 24 (b + 1000) (λ j. start-small (getD table j []) old j n b (p .row j) q) n
+-- one place of four rows, as the code finds it
+pub four-place : (x v y first second a b c d : ℕ) {a′ b′ c′ d′ : ℕ} → a ≡ a′ → b ≡ b′ → first ≡ max a b → c ≡ c′ → d ≡ d′ → second ≡ max c d → y ≡ max first second → v ≡ max x y
+    → v ≡ max x (max (max a′ b′) (max c′ d′))
+four-place x v y first second a b c d p q e r s g h k = rw (k, h, e, g, p, q, r, s)
+
+module _ (table : List (List ℕ)) (old : List ℕ) where
+  pub raised-none : (new : List ℕ) → new ≡ liftedOf old → new ≡ raisedTo table old 0
+  unfolding liftedOf raisedTo largest
+  raised-none new e = e
+
+  -- four rows more
+  pub raised-more : (q i : ℕ) (new more : List ℕ) → new ≡ raisedTo table old (4 * q) → i ≡ 4 * q → more ≡ fourRaised table old i new → more ≡ raisedTo table old (4 * (q + 1))
+  unfolding raisedTo fourRaised largest
+  raised-more q i new more e p g =
+      g ∙ filled-cong _ (λ j. largest table old j (getD old j 0 + 30000) (4 * (q + 1))) 24 24 (λ j h. place j (ap (λ (l : List ℕ). getD l j 0) e ∙ filled-at (λ j. largest table old j (getD old j 0 + 30000) (4 * q)) 24 24 j (omega arith) h))
+    where
+      last : 4 * (q + 1) ≡ suc (suc (suc (suc i)))
+      last = omega arith
+
+      one : i + 1 ≡ suc i
+      one = omega arith
+
+      two : i + 2 ≡ suc (suc i)
+      two = omega arith
+
+      three : i + 3 ≡ suc (suc (suc i))
+      three = omega arith
+
+      place : (j : ℕ) → getD new j 0 ≡ largest table old j (getD old j 0 + 30000) (4 * q)
+          → max (getD new j 0) (max (max (sumAt table old j i) (sumAt table old j (i + 1))) (max (sumAt table old j (i + 2)) (sumAt table old j (i + 3))))
+          ≡ largest table old j (getD old j 0 + 30000) (4 * (q + 1))
+      place j h = rw (last, one, two, three, h ∙ ap (largest table old j (getD old j 0 + 30000)) (sym p)) (max-four _ _ _ _ _)
+
+  pub raised-lifted : (k : ℕ) (new : List ℕ) → new ≡ raisedTo table old k → Lifted new
+  unfolding raisedTo
+  raised-lifted k new e =
+      record {
+        each = λ j h.
+            omega
+            (arith, ap (λ (l : List ℕ). getD l j 0) e ∙ filled-at (λ j. largest table old j (getD old j 0 + 30000) k) 24 24 j (omega arith) h, largest-first table old j (getD old j 0 + 30000) k);
+      }
+
+  pub round-is : (k : ℕ) (new starts : List ℕ) → new ≡ raisedTo table old k → starts ≡ loweredOf new → starts ≡ roundOf table old k
+  unfolding raisedTo loweredOf roundOf startOf
+  round-is k new starts e g =
+      g ∙ filled-cong _ (λ j. startOf table old j k) 24 24
+      (λ j h. ap (λ (x : ℕ). x - 30000) (ap (λ (l : List ℕ). getD l j 0) e ∙ filled-at (λ j. largest table old j (getD old j 0 + 30000) k) 24 24 j (omega arith) h))
+
+  pub round-small : (k b : ℕ) → SmallRows table → Small old b → Small (roundOf table old k) (b + 1000)
+  unfolding roundOf
+  round-small k b p q = filled-small (λ j. startOf table old j k) 24 (b + 1000) (λ j. start-small table old j k b p q) 24
 
 -- ---- whether a round changed something
 
@@ -82,28 +114,28 @@ same-never a b k (suc n) h e =
 
 -- ---- the rounds, as the code has them: the new starts and the test are results of calls
 
-module _ (table : List (List ℕ)) (old : List ℕ) (n k : ℕ) where
-  pub least-none : k ≡ 0 → record { found = false; starts = replicate 24 0 } ≡ leastFrom table old n k
+module _ (table : List (List ℕ)) (old : List ℕ) (fours k : ℕ) where
+  pub least-none : k ≡ 0 → record { found = false; starts = replicate 24 0 } ≡ leastFrom table old fours k
   unfolding leastFrom
   least-none h = rw h
 
-  module _ (new : List ℕ) (r : Bool) (more : k ≡ 0 → ⊥) (e : new ≡ roundOf table old n n) (s : r ≡ sameTo old new n) where
-    pub least-found : r ≡ true → record { found = true; starts = old } ≡ leastFrom table old n k
+  module _ (new : List ℕ) (r : Bool) (more : k ≡ 0 → ⊥) (e : new ≡ roundOf table old (4 * fours)) (s : r ≡ sameTo old new 24) where
+    pub least-found : r ≡ true → record { found = true; starts = old } ≡ leastFrom table old fours k
     unfolding leastFrom if_then_else_
     least-found p = go k more
       where
-        go : (k : ℕ) → (k ≡ 0 → ⊥) → record { found = true; starts = old } ≡ leastFrom table old n k
+        go : (k : ℕ) → (k ≡ 0 → ⊥) → record { found = true; starts = old } ≡ leastFrom table old fours k
         go zero h = absurd (h refl)
-        go (suc k) h = let t : sameTo old (roundOf table old n n) n ≡ true = rw (← e) (sym s ∙ p) in rw t
+        go (suc k) h = let t : sameTo old (roundOf table old (4 * fours)) 24 ≡ true = rw (← e) (sym s ∙ p) in rw t
 
-    pub least-more : r ≡ false → (x : Least) → x ≡ leastFrom table new n (k - 1) → x ≡ leastFrom table old n k
+    pub least-more : r ≡ false → (x : Least) → x ≡ leastFrom table new fours (k - 1) → x ≡ leastFrom table old fours k
     unfolding leastFrom if_then_else_
     least-more p x q = q ∙ go k more
       where
-        go : (k : ℕ) → (k ≡ 0 → ⊥) → leastFrom table new n (k - 1) ≡ leastFrom table old n k
+        go : (k : ℕ) → (k ≡ 0 → ⊥) → leastFrom table new fours (k - 1) ≡ leastFrom table old fours k
         go zero h = absurd (h refl)
         go (suc k) h =
-            let t : sameTo old (roundOf table old n n) n ≡ false = rw (← e) (sym s ∙ p) in rw (t, e, sub-one (suc k))
+            let t : sameTo old (roundOf table old (4 * fours)) 24 ≡ false = rw (← e) (sym s ∙ p) in rw (t, e, sub-one (suc k))
 
-    pub next-small : k ≤ n → SmallRows table → Small old (1000 * (n - k)) → Small new (1000 * (n - (k - 1)))
-    next-small b p q = rw e (small-more _ _ _ (omega arith) (round-small table old n _ p q))
+    pub next-small : k ≤ 24 → SmallRows table → Small old (1000 * (24 - k)) → Small new (1000 * (24 - (k - 1)))
+    next-small b p q = rw e (small-more _ _ _ (omega arith) (round-small table old (4 * fours) _ p q))

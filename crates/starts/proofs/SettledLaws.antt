@@ -3,12 +3,12 @@
 use mathlib.Core.Path.{_≡_, refl, sym, _∙_, ap}
 use mathlib.Core.Bool.{Bool, true, false}
 use mathlib.Core.Option.{none, some}
-use mathlib.Core.List.{List, [], map, List·Memᴰ}
-use Prim.Native.Nat.{ℕ, zero, suc, _+_, _-_, _≤_, _<_, pred}
+use mathlib.Core.List.{List, map}
+use Prim.Native.Nat.{ℕ, zero, suc, _+_, _*_, _-_, _≤_, _<_, pred}
 use native.Mathlib.Omega.{arith}
 use native.Mathlib.Decide.{ℕ-discrete}
 use lib.Dec.{eqb}
-use lib.ListN.{length, getD, replicate, length-replicate, replicate-append-replicate}
+use lib.ListN.{length, getD, replicate, length-replicate, replicate-append-replicate, List·getD-eq-default}
 use lib.Seq.{ext-getD}
 use borrow.Author.Tests.{eqb-true, eq-eqb}
 use Rattle.model.specs.declared.Delay.{Delay}
@@ -18,12 +18,11 @@ use Rattle.model.proofs.BoolLaws.{both}
 use Rattle.model.proofs.SeqLaws.{pad-at}
 use Rattle.model.proofs.StartsLaws.{same-eq, same-refl}
 use Rattle.starts.specs.declared.Least.{Least}
-use Rattle.starts.specs.Code.{Fits}
 use Rattle.starts.specs.Rounds.{startOf, roundOf, sameTo, leastFrom}
 use Rattle.starts.specs.Least.{leastAs}
-use Rattle.starts.proofs.FillLaws.{filled-is, filled-cong}
+use Rattle.starts.proofs.FillLaws.{filled-is, filled-cong, filled-rest}
 use Rattle.starts.proofs.PlaceLaws.{Tabled}
-use Rattle.starts.proofs.RaisedLaws.{start-raised, raised-cong, rounds-length, rounds-more, rounds-bound}
+use Rattle.starts.proofs.RaisedLaws.{start-raised, raised-past, raised-cong, rounds-length, rounds-more, rounds-bound}
 
 -- ---- the test for sameness, place by place
 
@@ -57,21 +56,22 @@ rounds-stay n qs k e (suc m) =
     ap (after n qs) s ∙ rounds-more n qs (k + m) ∙ ap (λ (l : List ℕ). map (raised qs l) (count 0 n)) (rounds-stay n qs k e m)
     ∙ sym (rounds-more n qs k) ∙ sym e
 
-module _ (n : ℕ) (few : n ≤ 24) (t : List (List ℕ)) (qs : List Delay) (h : Tabled n t qs) where
+module _ (n : ℕ) (few : n ≤ 24) (t : List (List ℕ)) (qs : List Delay) (h : Tabled n t qs) (fours : ℕ) (low : n ≤ 4 * fours) (high : 4 * fours ≤ 24) where
   -- a round of the code is a round of the definition
-  pub round-is : (k : ℕ) → k < n → roundOf t (pad 24 0 (after n qs k)) n n ≡ pad 24 0 (after n qs (suc k))
+  pub round-is : (k : ℕ) → k < n → roundOf t (pad 24 0 (after n qs k)) (4 * fours) ≡ pad 24 0 (after n qs (suc k))
   unfolding roundOf
   round-is k p =
-      filled-cong (λ j. startOf (getD t j []) (pad 24 0 (after n qs k)) j n) (raised qs (after n qs k)) 24 n start
+      filled-cong (λ j. startOf t (pad 24 0 (after n qs k)) j (4 * fours)) (raised qs (after n qs k)) 24 24 start
+      ∙ filled-rest (raised qs (after n qs k)) 24 n few (λ j b. raised-past n qs (h .fits) (after n qs k) j b ∙ List·getD-eq-default (after n qs k) 0 (omega (arith, rounds-length n qs k)))
       ∙ filled-is (raised qs (after n qs k)) 24 n few ∙ ap (pad 24 0) (sym (rounds-more n qs k))
     where
       same-at : (i : ℕ) → getD (pad 24 0 (after n qs k)) i 0 ≡ getD (after n qs k) i 0
       same-at i = pad-at 24 0 (after n qs k) i
 
-      start : (j : ℕ) → j < n → startOf (getD t j []) (pad 24 0 (after n qs k)) j n ≡ raised qs (after n qs k) j
+      start : (j : ℕ) → j < 24 → startOf t (pad 24 0 (after n qs k)) j (4 * fours) ≡ raised qs (after n qs k) j
       start j b =
-          start-raised n (pad 24 0 (after n qs k)) (λ i. omega (arith, same-at i, rounds-bound n qs (h .fits) k i)) j qs (h .fits) (getD t j [])
-          (λ i c. h .place i j (omega arith) (omega arith))
+          start-raised n (pad 24 0 (after n qs k)) (λ i. omega (arith, same-at i, rounds-bound n qs (h .fits) k i)) j qs (h .fits) t (4 * fours) low
+          (λ i c. h .place i j (omega arith) b)
           ∙ raised-cong qs (pad 24 0 (after n qs k)) (after n qs k) same-at j
 
   -- what the definition answers
@@ -79,34 +79,34 @@ module _ (n : ℕ) (few : n ≤ 24) (t : List (List ℕ)) (qs : List Delay) (h :
   answer = leastAs (if same (after n qs n) (after n qs (pred n)) then some (after n qs n) else none)
 
   -- rounds from the starts after a rounds, with k more to go
-  settled : (k a : ℕ) → a + k ≡ n → (k ≡ 0 → same (after n qs n) (after n qs (pred n)) ≡ false) → leastFrom t (pad 24 0 (after n qs a)) n k ≡ answer
+  settled : (k a : ℕ) → a + k ≡ n → (k ≡ 0 → same (after n qs n) (after n qs (pred n)) ≡ false) → leastFrom t (pad 24 0 (after n qs a)) fours k ≡ answer
   unfolding leastFrom leastAs if_then_else_
   settled zero a e z = rw (z refl)
   settled (suc k) a e z =
       rw (round-is a (omega arith))
-      (go (sameTo (pad 24 0 (after n qs a)) (pad 24 0 (after n qs (suc a))) n) refl (settled k (suc a) (omega arith)))
+      (go (sameTo (pad 24 0 (after n qs a)) (pad 24 0 (after n qs (suc a))) 24) refl (settled k (suc a) (omega arith)))
     where
       -- the test finds no difference only if there is none
-      unchanged : sameTo (pad 24 0 (after n qs a)) (pad 24 0 (after n qs (suc a))) n ≡ true → after n qs a ≡ after n qs (suc a)
+      unchanged : sameTo (pad 24 0 (after n qs a)) (pad 24 0 (after n qs (suc a))) 24 ≡ true → after n qs a ≡ after n qs (suc a)
       unchanged g =
           ext-getD 0 (after n qs a) (after n qs (suc a)) (rounds-length n qs a ∙ sym (rounds-length n qs (suc a)))
-          (λ i p. sym (pad-at 24 0 (after n qs a) i) ∙ sameTo-at _ _ n g i (omega (arith, rounds-length n qs a)) ∙ pad-at 24 0 (after n qs (suc a)) i)
+          (λ i p. sym (pad-at 24 0 (after n qs a) i) ∙ sameTo-at _ _ 24 g i (omega (arith, rounds-length n qs a)) ∙ pad-at 24 0 (after n qs (suc a)) i)
 
       last : (m : ℕ) → a ≤ m → after n qs a ≡ after n qs (suc a) → after n qs m ≡ after n qs a
       last m p g = let s : m ≡ a + (m - a) = omega arith in ap (after n qs) s ∙ rounds-stay n qs a g (m - a)
 
-      changed : sameTo (pad 24 0 (after n qs a)) (pad 24 0 (after n qs (suc a))) n ≡ false → k ≡ 0 → (b : Bool) → same (after n qs n) (after n qs (pred n)) ≡ b → b ≡ false
+      changed : sameTo (pad 24 0 (after n qs a)) (pad 24 0 (after n qs (suc a))) 24 ≡ false → k ≡ 0 → (b : Bool) → same (after n qs n) (after n qs (pred n)) ≡ b → b ≡ false
       changed g z true s =
           let p : n ≡ suc a = omega arith in
           let q : pred n ≡ a = omega arith in
           let r : after n qs (suc a) ≡ after n qs a = ap (after n qs) (sym p) ∙ same-eq _ _ s ∙ ap (after n qs) q in
-          let w : sameTo (pad 24 0 (after n qs a)) (pad 24 0 (after n qs (suc a))) n ≡ true = rw r (sameTo-self (pad 24 0 (after n qs a)) n) in
+          let w : sameTo (pad 24 0 (after n qs a)) (pad 24 0 (after n qs (suc a))) 24 ≡ true = rw r (sameTo-self (pad 24 0 (after n qs a)) 24) in
           cc
       changed g z false s = refl
 
-      go : (b : Bool) → sameTo (pad 24 0 (after n qs a)) (pad 24 0 (after n qs (suc a))) n ≡ b
-          → ((k ≡ 0 → same (after n qs n) (after n qs (pred n)) ≡ false) → leastFrom t (pad 24 0 (after n qs (suc a))) n k ≡ answer)
-          → (if b then record { found = true; starts = pad 24 0 (after n qs a) } else leastFrom t (pad 24 0 (after n qs (suc a))) n k) ≡ answer
+      go : (b : Bool) → sameTo (pad 24 0 (after n qs a)) (pad 24 0 (after n qs (suc a))) 24 ≡ b
+          → ((k ≡ 0 → same (after n qs n) (after n qs (pred n)) ≡ false) → leastFrom t (pad 24 0 (after n qs (suc a))) fours k ≡ answer)
+          → (if b then record { found = true; starts = pad 24 0 (after n qs a) } else leastFrom t (pad 24 0 (after n qs (suc a))) fours k) ≡ answer
       go true g rec =
           let p : after n qs n ≡ after n qs a = last n (omega arith) (unchanged g) in
           let q : after n qs (pred n) ≡ after n qs a = last (pred n) (omega arith) (unchanged g) in
@@ -114,21 +114,9 @@ module _ (n : ℕ) (few : n ≤ 24) (t : List (List ℕ)) (qs : List Delay) (h :
       go false g rec = rec (λ z. changed g z (same (after n qs n) (after n qs (pred n))) refl)
 
   -- the least starts of the list
-  pub settled-is : 1 ≤ n → leastFrom t (replicate 24 0) n n ≡ leastAs (leastStarts n qs)
+  pub settled-is : 1 ≤ n → leastFrom t (replicate 24 0) fours n ≡ leastAs (leastStarts n qs)
   unfolding leastStarts rounds firstStarts pad
   settled-is p =
       let e : n + (24 - length (replicate {A = ℕ} n 0)) ≡ 24 = omega (arith, length-replicate {A = ℕ} n 0) in
       let first : pad 24 0 (after n qs 0) ≡ replicate 24 0 = replicate-append-replicate n (24 - length (replicate {A = ℕ} n 0)) 0 ∙ ap (λ (k : ℕ). replicate k 0) e in
-      ap (λ (l : List ℕ). leastFrom t l n n) (sym first) ∙ settled n 0 (omega arith) (λ z. absurd (omega arith))
-
--- no least start passes 23,000
-pub least-most : (n : ℕ) → n ≤ 24 → (qs : List Delay) → ((q : Delay) → List·Memᴰ q qs → Fits n q) → (l : List ℕ) → leastStarts n qs ≡ some l → (j : ℕ) → getD l j 0 ≤ 23000
-unfolding leastStarts if_then_else_
-least-most n few qs f l e j = go (same (after n qs n) (after n qs (pred n))) refl e
-  where
-    go : (b : Bool) → same (after n qs n) (after n qs (pred n)) ≡ b → (if b then some (after n qs n) else none) ≡ some l → getD l j 0 ≤ 23000
-    go true g h =
-        let p : after n qs n ≡ l = cc in
-        let q : getD l j 0 ≡ getD (after n qs (pred n)) j 0 = ap (λ (x : List ℕ). getD x j 0) (sym p ∙ same-eq _ _ g) in
-        omega (arith, rounds-bound n qs f (pred n) j)
-    go false g h = let z : _≡_ {A = ℕ} 0 1 = cc in absurd (omega arith)
+      ap (λ (l : List ℕ). leastFrom t l fours n) (sym first) ∙ settled n 0 (omega arith) (λ z. absurd (omega arith))

@@ -3,14 +3,13 @@ use mathlib.Core.Path.{_≡_}
 use mathlib.Core.Bool.{Bool, true}
 use mathlib.Core.List.{map}
 use Prim.Native.Nat.{ℕ, _≤_, _<_}
-use native.Mathlib.Omega.{arith}
 use Rattle.model.specs.declared.Delay.{Delay}
 use Rattle.model.specs.declared.Batch.{Batch}
 use Rattle.model.specs.Common.{all, count}
-use Rattle.model.specs.Batch.{delayOf, delaysOf, ticks}
-use Rattle.model.specs.Open.{ticksOk, jobsOk, weightOk}
-use Rattle.model.proofs.ListLaws.{all-each, some-count, index-in}
-use Rattle.model.proofs.LimitLaws.{ticks-iff, jobs-iff, weight-iff}
+use Rattle.model.specs.Batch.{delayOf, delaysOf}
+use Rattle.model.specs.Open.{jobsOk, weightOk}
+use Rattle.model.proofs.ListLaws.{all-each, index-in}
+use Rattle.model.proofs.LimitLaws.{jobs-iff, weight-iff}
 use Rattle.starts.specs.Code.{Limited, coded}
 use Rattle.starts.specs.Delays.{Readable, delaysRead}
 use Rattle.starts.specs.Least.{HoldsDelays}
@@ -44,9 +43,3 @@ holds-read b few e g =
       toFits = λ k p. jobs-iff (b .n) (delayOf b k) .0 (all-listed (jobsOk (b .n)) (delayOf b) (b .m) e k p) .1;
       weightFits = readable b few g .weights;
     }
-
--- ---- ticks
-
-pub ticks-few : (b : Batch) → all (λ i. ticksOk (ticks b i)) (count 0 (b .n)) ≡ true → (i : ℕ) → i < b .n → ticks b i ≤ 16
-ticks-few b e i p =
-    ticks-iff (ticks b i) .0 (all-each (λ i. ticksOk (ticks b i)) (count 0 (b .n)) e (some-count 0 (b .n) i (omega arith) (omega arith))) .1

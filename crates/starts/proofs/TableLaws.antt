@@ -16,15 +16,15 @@ use Rattle.starts.proofs.FillLaws.{set-all, zeros-small}
 
 -- ---- one place
 
-pub put-stored : (t : List (List ℕ)) (from to code : ℕ) → getD (getD t to []) from 0 < code → set t to (set (getD t to []) from code) ≡ putIn t from to code
+pub put-stored : (t : List (List ℕ)) (from to code : ℕ) → getD (getD t from []) to 0 < code → set t from (set (getD t from []) to code) ≡ putIn t from to code
 unfolding putIn
-put-stored t from to code h = let e : max (getD (getD t to []) from 0) code ≡ code = omega arith in rw e
+put-stored t from to code h = let e : max (getD (getD t from []) to 0) code ≡ code = omega arith in rw e
 
-pub put-kept : (t : List (List ℕ)) (from to code : ℕ) → code ≤ getD (getD t to []) from 0 → t ≡ putIn t from to code
+pub put-kept : (t : List (List ℕ)) (from to code : ℕ) → code ≤ getD (getD t from []) to 0 → t ≡ putIn t from to code
 unfolding putIn
 put-kept t from to code h =
-    let e : max (getD (getD t to []) from 0) code ≡ getD (getD t to []) from 0 = omega arith in
-    rw (e, set-getD (getD t to []) from 0, set-getD t to [])
+    let e : max (getD (getD t from []) to 0) code ≡ getD (getD t from []) to 0 = omega arith in
+    rw (e, set-getD (getD t from []) to 0, set-getD t from [])
 
 -- ---- one inequality, as the code has it: job numbers are results of calls
 
@@ -62,8 +62,8 @@ pub put-small : (t : List (List ℕ)) (from to code : ℕ) → SmallRows t → c
 unfolding putIn
 put-small t from to code s h =
     record {
-      row = set-all (λ (r : List ℕ). Small r 31000) t to _ [] (s .row)
-          (record { each = set-all (λ (x : ℕ). x ≤ 31000) (getD t to []) from _ 0 (s .row to .each) (omega (arith, s .row to .each from)) });
+      row = set-all (λ (r : List ℕ). Small r 31000) t from _ [] (s .row)
+          (record { each = set-all (λ (x : ℕ). x ≤ 31000) (getD t from []) to _ 0 (s .row from .each) (omega (arith, s .row from .each to)) });
     }
 
 pub turn-small : (t : List (List ℕ)) (clash turn : ℕ) → SmallRows t → SmallRows (turnIn t clash turn)

@@ -1,5 +1,5 @@
 -- Least starts by the table, and what the arrays must hold for them to be those of a batch and its turns.
-use Prim.Native.Nat.{ℕ, _+_, _*_, _≤_, _<_}
+use Prim.Native.Nat.{ℕ, _+_, _*_, _/_, _≤_, _<_}
 use mathlib.Core.Path.{_≡_}
 use mathlib.Core.Bool.{true, false}
 use mathlib.Core.List.{List}
@@ -20,7 +20,7 @@ use Rattle.starts.specs.Table.{withDelays, withTurns, emptyTable}
 -- the least starts of the first m delays and the first depth turns, over n jobs
 unfoldable pub leastOf : ℕ → ℕ → List ℕ → List ℕ → List ℕ → List ℕ → List ℕ → ℕ → Least
 leastOf n m from to code clashes turns depth =
-    leastFrom (withTurns clashes turns (withDelays from to code emptyTable m) depth) (replicate 24 0) n n
+    leastFrom (withTurns clashes turns (withDelays from to code emptyTable m) depth) (replicate 24 0) ((n + 3) / 4) n
 
 -- the answer for least starts as the definitions have them
 unfoldable pub leastAs : Option (List ℕ) → Least

@@ -1,5 +1,5 @@
--- Rounds over a table of codes, as lists of 24 starts of which the first n count.
-use Prim.Native.Nat.{ℕ, zero, suc, _+_, _-_, _≤_, max}
+-- Rounds over a table of codes, as lists of 24 starts. Rows and columns past n are empty, so the starts past n stay 0.
+use Prim.Native.Nat.{ℕ, zero, suc, _+_, _*_, _-_, _≤_, _<_, max}
 use mathlib.Core.Bool.{Bool, true, false, _&&_}
 use mathlib.Core.List.{List, []}
 use lib.ListN.{getD, set, replicate}
@@ -20,27 +20,52 @@ unfoldable pub filled : (ℕ → ℕ) → ℕ → ℕ → List ℕ
 filled f size zero = replicate size 0
 filled f size (suc k) = set (filled f size k) k (f k)
 
--- the largest of first and old t_i + code over the first k places of a row
-unfoldable pub largest : List ℕ → List ℕ → ℕ → ℕ → ℕ
-largest row old first zero = first
-largest row old first (suc k) = max (largest row old first k) (getD old k 0 + getD row k 0)
+-- old t_i + code in column j of row i
+unfoldable pub sumAt : List (List ℕ) → List ℕ → ℕ → ℕ → ℕ
+sumAt table old j i = getD old i 0 + getD (getD table i []) j 0
 
--- start j after one more round, by the row of what ends in it
-unfoldable pub startOf : List ℕ → List ℕ → ℕ → ℕ → ℕ
-startOf row old j n = largest row old (getD old j 0 + 30000) n - 30000
+-- the largest of first and old t_i + code over the first k rows, in column j
+unfoldable pub largest : List (List ℕ) → List ℕ → ℕ → ℕ → ℕ → ℕ
+largest table old j first zero = first
+largest table old j first (suc k) = max (largest table old j first k) (sumAt table old j k)
 
--- the starts of the first k of n jobs after one more round
-unfoldable pub roundOf : List (List ℕ) → List ℕ → ℕ → ℕ → List ℕ
-roundOf table old n k = filled (λ j. startOf (getD table j []) old j n) 24 k
+-- start j after one more round over the first k rows, by what ends in it: column j
+unfoldable pub startOf : List (List ℕ) → List ℕ → ℕ → ℕ → ℕ
+startOf table old j k = largest table old j (getD old j 0 + 30000) k - 30000
+
+-- the starts after one more round over the first k rows
+unfoldable pub roundOf : List (List ℕ) → List ℕ → ℕ → List ℕ
+roundOf table old k = filled (λ j. startOf table old j k) 24 24
+
+-- ---- the steps of a round: each start plus 30,000, four rows at a time, and back
+
+-- the largest of each column over the first k rows
+unfoldable pub raisedTo : List (List ℕ) → List ℕ → ℕ → List ℕ
+raisedTo table old k = filled (λ j. largest table old j (getD old j 0 + 30000) k) 24 24
+
+unfoldable pub liftedOf : List ℕ → List ℕ
+liftedOf old = filled (λ j. getD old j 0 + 30000) 24 24
+
+unfoldable pub loweredOf : List ℕ → List ℕ
+loweredOf new = filled (λ j. getD new j 0 - 30000) 24 24
+
+-- no number is below 30,000
+pub record Lifted (l : List ℕ) : Type 0 where
+  pub each : (j : ℕ) → j < 24 → 30000 ≤ getD l j 0
+
+-- each place with rows i to i + 3
+unfoldable pub fourRaised : List (List ℕ) → List ℕ → ℕ → List ℕ → List ℕ
+fourRaised table old i new =
+    filled (λ j. max (getD new j 0) (max (max (sumAt table old j i) (sumAt table old j (i + 1))) (max (sumAt table old j (i + 2)) (sumAt table old j (i + 3))))) 24 24
 
 -- the first k numbers agree
 unfoldable pub sameTo : List ℕ → List ℕ → ℕ → Bool
 sameTo a b zero = true
 sameTo a b (suc k) = eqb (getD a k 0) (getD b k 0) && sameTo a b k
 
--- with at most k rounds more: the starts after which a round changes nothing, or none
+-- with at most k rounds more, over the first 4 * fours rows: the starts after which a round changes nothing, or none
 unfoldable pub leastFrom : List (List ℕ) → List ℕ → ℕ → ℕ → Least
-leastFrom table old n zero = record { found = false; starts = replicate 24 0 }
-leastFrom table old n (suc k) =
-    let new = roundOf table old n n in
-    if sameTo old new n then record { found = true; starts = old } else leastFrom table new n k
+leastFrom table old fours zero = record { found = false; starts = replicate 24 0 }
+leastFrom table old fours (suc k) =
+    let new = roundOf table old (4 * fours) in
+    if sameTo old new 24 then record { found = true; starts = old } else leastFrom table new fours k

@@ -7,7 +7,7 @@ use Rattle.model.specs.Common.{if_then_else_}
 
 -- the place for the pair (from, to) keeps the larger of what it has and a code
 unfoldable pub putIn : List (List ℕ) → ℕ → ℕ → ℕ → List (List ℕ)
-putIn table from to code = set table to (set (getD table to []) from (max (getD (getD table to []) from 0) code))
+putIn table from to code = set table from (set (getD table from []) to (max (getD (getD table from []) to 0) code))
 
 -- the inequality of a turn on the clash with this code: from i to j with d + 1 on side 0, from j to i with 1 − d on side 1
 unfoldable pub turnIn : List (List ℕ) → ℕ → ℕ → List (List ℕ)

@@ -39,5 +39,5 @@ pub fn least_starts(
     let mut table = [[0u16; 24]; 24];
     fill_delays(&mut table, m, from, to, code);
     fill_turns(&mut table, clashes, turns, depth);
-    rounds(&table, [0u16; 24], n, n)
+    rounds(&table, [0u16; 24], (n + 3) / 4, n)
 }

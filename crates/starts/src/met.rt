@@ -1,17 +1,19 @@
 // Whether some starts meet a batch's delays: they do exactly where the delays alone have least starts.
+use crate::delays::Delays;
 use crate::delays::delays_of;
 use crate::least_starts;
 use model::Batch;
 use model::wide;
 ghost use mathlib.Core.Path.{_≡_};
 ghost use Rattle.model.specs.Open.{delaysMet};
-ghost use Rattle.starts.specs.Delays.{DelaysSound};
+ghost use Rattle.starts.specs.Delays.{DelaysSound, delaysRead};
 
-pub fn delays_met(batch: Batch) -> bool
+// With the delays as they were read from the batch.
+pub fn read_delays_met(batch: Batch, delays: Delays) -> bool
     requires { ⌜ DelaysSound batch ⌝ }
+    requires { ⌜ delays ≡ delaysRead batch ⌝ }
     ensures { λ r. ⌜ r ≡ delaysMet batch ⌝ }
 {
-    let delays = delays_of(batch);
     let from = delays.from;
     let to = delays.to;
     let code = delays.code;
@@ -20,4 +22,11 @@ pub fn delays_met(batch: Batch) -> bool
     let m = wide(batch.m);
     let least = least_starts(n, m, &from, &to, &code, &none, &none, 0);
     least.found
+}
+
+pub fn delays_met(batch: Batch) -> bool
+    requires { ⌜ DelaysSound batch ⌝ }
+    ensures { λ r. ⌜ r ≡ delaysMet batch ⌝ }
+{
+    read_delays_met(batch, delays_of(batch))
 }

@@ -1,50 +1,96 @@
-// Rounds over the table: each start after k rounds comes from the starts after k − 1.
+// Rounds over the table: each start after k rounds comes from the starts after k − 1. A round takes the table four rows at a time: that is as
+// much as it takes for the compiler to work on whole rows, and rows past n are empty, so they change nothing.
 use crate::Least;
 ghost use mathlib.Core.Path.{_≡_};
-ghost use Prim.Native.Nat.{_*_, _-_, _≤_, _<_};
-ghost use Rattle.starts.specs.Rounds.{Small, SmallRows, startOf, roundOf, sameTo, leastFrom};
+ghost use Prim.Native.Nat.{_+_, _*_, _-_, _≤_, _<_, max};
+ghost use Rattle.starts.specs.Rounds.{Small, SmallRows, Lifted, sumAt, liftedOf, loweredOf, fourRaised, roundOf, sameTo, leastFrom};
 
-// Start j after one more round. An empty place never wins, since every start is below 30,000.
-fn start_of(row: &[u16; 24], old: &[u16; 24], j: usize, n: usize) -> u16
-    requires { ⌜ (j < 24) × (n ≤ 24) ⌝ }
-    requires { ⌜ Small (now row) 31000 ⌝ }
-    requires { ⌜ Small (now old) 23000 ⌝ }
-    ensures { λ r. ⌜ r ≡ startOf (now (row .entry)) (now (old .entry)) j n ⌝ }
+fn larger(a: u16, b: u16) -> u16
+    ensures { λ r. ⌜ r ≡ max a b ⌝ }
 {
-    let mut best = old[j] + 30000;
-    let mut i: usize = 0;
-    while i < n {
-        let x = old[i] + row[i];
-        if best < x {
-            best = x;
-        }
-        i = i + 1;
+    if a < b {
+        return b;
     }
-    best - 30000
+    a
 }
 
-// The starts of the first n jobs after one more round.
-fn round(table: &[[u16; 24]; 24], old: [u16; 24], n: usize) -> [u16; 24]
-    requires { ⌜ n ≤ 24 ⌝ }
-    requires { ⌜ SmallRows (now table) ⌝ }
-    requires { ⌜ Small old 23000 ⌝ }
-    ensures { λ r. ⌜ r ≡ roundOf (now (table .entry)) old n n ⌝ }
+// Each start plus 30,000, as the table's weights are.
+fn lifted(old: &[u16; 24]) -> [u16; 24]
+    requires { ⌜ Small (now old) 23000 ⌝ }
+    ensures { λ r. ⌜ r ≡ liftedOf (now (old .entry)) ⌝ }
 {
     let mut new = [0u16; 24];
     let mut j: usize = 0;
-    while j < n {
-        new[j] = start_of(&table[j], &old, j, n);
+    while j < 24 {
+        new[j] = old[j] + 30000;
         j = j + 1;
     }
     new
 }
 
-fn same(a: &[u16; 24], b: &[u16; 24], n: usize) -> bool
-    requires { ⌜ n ≤ 24 ⌝ }
-    ensures { λ r. ⌜ r ≡ sameTo (now (a .entry)) (now (b .entry)) n ⌝ }
+// And back.
+fn lowered(new: &[u16; 24]) -> [u16; 24]
+    requires { ⌜ Lifted (now new) ⌝ }
+    ensures { λ r. ⌜ r ≡ loweredOf (now (new .entry)) ⌝ }
+{
+    let mut starts = [0u16; 24];
+    let mut j: usize = 0;
+    while j < 24 {
+        starts[j] = new[j] - 30000;
+        j = j + 1;
+    }
+    starts
+}
+
+// Old t_i plus the code in column j of row i. That of an empty place is below 30,000, since every start is.
+fn sum(table: &[[u16; 24]; 24], old: &[u16; 24], i: usize, j: usize) -> u16
+    requires { ⌜ (i < 24) × (j < 24) ⌝ }
+    requires { ⌜ SmallRows (now table) ⌝ }
+    requires { ⌜ Small (now old) 23000 ⌝ }
+    ensures { λ r. ⌜ r ≡ sumAt (now (table .entry)) (now (old .entry)) j i ⌝ }
+{
+    old[i] + table[i][j]
+}
+
+// Rows i to i + 3: each place keeps the largest of what it has and old t plus code in these rows.
+fn raised(new: [u16; 24], table: &[[u16; 24]; 24], old: &[u16; 24], i: usize) -> [u16; 24]
+    requires { ⌜ i ≤ 20 ⌝ }
+    requires { ⌜ SmallRows (now table) ⌝ }
+    requires { ⌜ Small (now old) 23000 ⌝ }
+    ensures { λ r. ⌜ r ≡ fourRaised (now (table .entry)) (now (old .entry)) i new ⌝ }
+{
+    let mut more = [0u16; 24];
+    let mut j: usize = 0;
+    while j < 24 {
+        let first = larger(sum(table, old, i, j), sum(table, old, i + 1, j));
+        let second = larger(sum(table, old, i + 2, j), sum(table, old, i + 3, j));
+        more[j] = larger(new[j], larger(first, second));
+        j = j + 1;
+    }
+    more
+}
+
+// The starts after one more round over the first 4 * fours rows.
+fn round(table: &[[u16; 24]; 24], old: [u16; 24], fours: usize) -> [u16; 24]
+    requires { ⌜ fours ≤ 6 ⌝ }
+    requires { ⌜ SmallRows (now table) ⌝ }
+    requires { ⌜ Small old 23000 ⌝ }
+    ensures { λ r. ⌜ r ≡ roundOf (now (table .entry)) old (4 * fours) ⌝ }
+{
+    let mut new = lifted(&old);
+    let mut q: usize = 0;
+    while q < fours {
+        new = raised(new, table, &old, 4 * q);
+        q = q + 1;
+    }
+    lowered(&new)
+}
+
+fn same(a: &[u16; 24], b: &[u16; 24]) -> bool
+    ensures { λ r. ⌜ r ≡ sameTo (now (a .entry)) (now (b .entry)) 24 ⌝ }
 {
     let mut j: usize = 0;
-    while j < n {
+    while j < 24 {
         if a[j] != b[j] {
             return false;
         }
@@ -54,11 +100,11 @@ fn same(a: &[u16; 24], b: &[u16; 24], n: usize) -> bool
 }
 
 // At most k rounds more. A round that changes nothing ends them; if the last one still changes something, there are no least starts.
-pub fn rounds(table: &[[u16; 24]; 24], old: [u16; 24], n: usize, k: usize) -> Least
-    requires { ⌜ (n ≤ 24) × (k ≤ n) ⌝ }
+pub fn rounds(table: &[[u16; 24]; 24], old: [u16; 24], fours: usize, k: usize) -> Least
+    requires { ⌜ (fours ≤ 6) × (k ≤ 24) ⌝ }
     requires { ⌜ SmallRows (now table) ⌝ }
-    requires { ⌜ Small old (1000 * (n - k)) ⌝ }
-    ensures { λ r. ⌜ r ≡ leastFrom (now (table .entry)) old n k ⌝ }
+    requires { ⌜ Small old (1000 * (24 - k)) ⌝ }
+    ensures { λ r. ⌜ r ≡ leastFrom (now (table .entry)) old fours k ⌝ }
 {
     if k == 0 {
         return Least {
@@ -66,12 +112,12 @@ pub fn rounds(table: &[[u16; 24]; 24], old: [u16; 24], n: usize, k: usize) -> Le
             starts: [0u16; 24],
         };
     }
-    let new = round(table, old, n);
-    if same(&old, &new, n) {
+    let new = round(table, old, fours);
+    if same(&old, &new) {
         return Least {
             found: true,
             starts: old,
         };
     }
-    rounds(table, new, n, k - 1)
+    rounds(table, new, fours, k - 1)
 }

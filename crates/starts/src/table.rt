@@ -1,4 +1,4 @@
-// The working table: 24 rows of 24 weights, each place empty or the largest weight for that pair. Row j has what ends in job j.
+// The working table: 24 rows of 24 weights, each place empty or the largest weight for that pair. Row i has what starts in job i.
 use model::wide16;
 ghost use mathlib.Core.Path.{_≡_};
 ghost use Prim.Native.Nat.{_≤_, _<_, _/_};
@@ -10,8 +10,8 @@ fn put(table: &mut [[u16; 24]; 24], from: usize, to: usize, code: u16)
     requires { ⌜ (from < 24) × (to < 24) ⌝ }
     ensures { λ _. ⌜ now (table .exit) ≡ putIn (now (table .entry)) from to code ⌝ }
 {
-    if table[to][from] < code {
-        table[to][from] = code;
+    if table[from][to] < code {
+        table[from][to] = code;
     }
 }
 

@@ -1,5 +1,5 @@
--- `rounds` meets its contract, by recursion on the falling round number k. After n − k rounds no start is above 1,000 * (n − k), so the
--- sums of the next round fit sixteen bits.
+-- `rounds` meets its contract, by recursion on the falling round number k. With k of 24 rounds left no start is above 1,000 * (24 − k), so
+-- the sums of the next round fit sixteen bits.
 use native.Mathlib.Omega.{arith}
 use Rattle.starts.proofs.FillLaws.{small-more}
 use Rattle.starts.proofs.RoundLaws.{least-none, least-found, least-more, next-small}
@@ -53,7 +53,7 @@ rounds-same-requires : (t : ℕ) → rounds-lts.Need-same-requires (
   rounds-below t,
   rounds.Post,
 ) (rounds-at t) rounds.Post
-rounds-same-requires t c κs = c .before .before .before .before .pre .1 .0 .0
+rounds-same-requires t c κs = tt
 
 rounds-returns-2 : (t : ℕ) → rounds-lts.Need-returns-2 (
   round-reads.Asked,

