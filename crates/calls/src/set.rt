@@ -143,7 +143,7 @@ fn set_path(path: [Turn; 1024], field: usize, a: usize, value: u64) -> [Turn; 10
         if field == 7 {
             turn.clash = (value % 65536) as u16;
         } else {
-            turn.side = (value % 256) as u8;
+            turn.side = (value % 256) as u16;
         }
         next[a] = turn;
     }

@@ -57,7 +57,7 @@ fn put_path(out: &mut [u8], at: usize, path: [Turn; 1024]) -> usize {
             return next;
         }
         let clash = put_number(out, next, b' ', of_pair(turn.clash));
-        next = put_number(out, clash, b'.', of_byte(turn.side));
+        next = put_number(out, clash, b'.', of_pair(turn.side));
         i += 1;
     }
     next

@@ -71,7 +71,7 @@ fn sum_path(sum: u64, path: [Turn; 1024]) -> u64 {
     let mut i: usize = 0;
     while i < 1024 {
         let turn = path[i];
-        next = summed(summed(next, of_pair(turn.clash)), of_byte(turn.side));
+        next = summed(summed(next, of_pair(turn.clash)), of_pair(turn.side));
         i += 1;
     }
     next

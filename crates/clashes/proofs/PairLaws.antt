@@ -14,7 +14,7 @@ use Rattle.model.specs.Clash.{Clash, clashing, distances, clashesOf}
 use Rattle.model.proofs.SeqLaws.{count-more, count-end}
 use Rattle.clashes.specs.declared.Clashes.{Clashes}
 use Rattle.clashes.specs.Code.{lift, codeOf}
-use Rattle.clashes.specs.Tables.{tablesMeet}
+use Rattle.clashes.specs.Tables.{tableOf, tablesMeet}
 use Rattle.clashes.specs.List.{put, addAll, pairCodes, Grown}
 use Rattle.clashes.proofs.SeqLaws.{keep-map, map-map}
 use Rattle.clashes.proofs.CodeLaws.{lift-sub}
@@ -83,6 +83,11 @@ pair-last first second base from l k p h =
     let e : k + (31 - k) ≡ 31 = omega (arith, p .within) in
     pair-end first second base from l 31
     (rw e at (pair-skip first second base from l k (31 - k) p (omega (arith, p .within)) (λ x a b. tables-apart first second x (inr (omega arith))))) (omega arith)
+
+-- the tables' ticks are results of calls
+pub pair-jobs : (first second : Job) (base p q : ℕ) (from l : Clashes) → p ≡ first .ticks → q ≡ second .ticks → Grown from l (pairCodes (tableOf p (first .masks)) (tableOf q (second .masks)) base) 31
+    → Grown from l (pairCodes first second base) 31
+pair-jobs first second base p q from l e g h = rw (e, g) at h
 
 -- the clashes of two jobs of a batch, from their tables
 pub pair-codes : (b : Batch) (i j : ℕ) → pairCodes (jobOf b i) (jobOf b j) (i * 1024 + j * 32) ≡ map codeOf (clashesOf b i j)

@@ -26,11 +26,15 @@ fn add_pair(codes: &mut [u16; 1024], count: usize, first: Job, second: Job, base
     requires { ⌜ (count ≤ 20000) × (base ≤ 24576) ⌝ }
     ensures { λ r. ⌜ Grown (listing count (now (codes .entry))) (listing r (now (codes .exit))) (pairCodes first second base) 31 ⌝ }
 {
-    let end = 15 + wide(first.ticks);
+    let p = wide(first.ticks);
+    let q = wide(second.ticks);
+    let masks = first.masks;
+    let others = second.masks;
+    let end = 15 + p;
     let mut at = count;
-    let mut k = 16 - wide(second.ticks);
+    let mut k = 16 - q;
     while k < end {
-        if tables_meet(first, second, k) {
+        if tables_meet(p, &masks, q, &others, k) {
             at = put_code(codes, at, base + k);
         }
         k = k + 1;

@@ -1,12 +1,10 @@
 // Two reservation tables at a distance: whether some station is held in a tick of each, the ticks being that distance apart.
 // A distance d is passed as k = d + 15, and only ticks that lie over each other are tested, mask against mask.
-use model::Job;
-use model::wide;
 ghost use mathlib.Core.Path.{_≡_};
 ghost use Prim.Native.Nat.{_+_, _-_, _≤_, _<_, min};
 ghost use lib.IntN.{subℕ};
 ghost use Rattle.model.specs.Clash.{meet};
-ghost use Rattle.clashes.specs.Tables.{tablesMeet};
+ghost use Rattle.clashes.specs.Tables.{tableOf, tablesMeet};
 
 // Some station is in both masks.
 fn share(first: u16, second: u16) -> bool
@@ -37,16 +35,16 @@ fn end_tick(p: usize, q: usize, k: usize) -> usize
     end
 }
 
-// Some station is in mask a of the first table and in mask c of the second with a - c = k - 15.
-pub fn tables_meet(first: Job, second: Job, k: usize) -> bool
-    requires { ⌜ (first .ticks ≤ 16) × (second .ticks ≤ 16) ⌝ }
+// Some station is in mask a of the first table, which has p ticks, and in mask c of the second, which has q, with a - c = k - 15.
+pub fn tables_meet(p: usize, first: &[u16; 16], q: usize, second: &[u16; 16], k: usize) -> bool
+    requires { ⌜ (p ≤ 16) × (q ≤ 16) ⌝ }
     requires { ⌜ k < 31 ⌝ }
-    ensures { λ r. ⌜ r ≡ tablesMeet first second (subℕ k 15) ⌝ }
+    ensures { λ r. ⌜ r ≡ tablesMeet (tableOf p (now (first .entry))) (tableOf q (now (second .entry))) (subℕ k 15) ⌝ }
 {
-    let end = end_tick(wide(first.ticks), wide(second.ticks), k);
+    let end = end_tick(p, q, k);
     let mut a = first_tick(k);
     while a < end {
-        if share(first.masks[a], second.masks[a + 15 - k]) {
+        if share(first[a], second[a + 15 - k]) {
             return true;
         }
         a = a + 1;

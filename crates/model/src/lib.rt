@@ -32,7 +32,7 @@ pub struct Batch {
 #[repr(C)]
 pub struct Turn {
     pub clash: u16,
-    pub side: u8,
+    pub side: u16,
 }
 
 // The incumbent's latency. Its starts stand beside it, since an enum holds no array.

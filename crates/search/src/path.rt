@@ -18,7 +18,7 @@ pub fn path_of(turns: &[u16; 1024], depth: usize) -> [Turn; 1024]
         let turn = turns[k];
         path[k] = Turn {
             clash: turn / 2,
-            side: (turn % 2) as u8,
+            side: turn % 2,
         };
         k = k + 1;
     }

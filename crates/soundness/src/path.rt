@@ -81,13 +81,14 @@ pub fn read_path(path: [Turn; 1024], count: usize) -> Route
 pub fn rest_empty(path: [Turn; 1024], depth: usize) -> bool
     ensures { λ r. ⌜ r ≡ restEmpty path depth ⌝ }
 {
+    let mut rest = true;
     let mut k = depth;
     while k < 1024 {
         let t = path[k];
         if !is_empty(t) {
-            return false;
+            rest = false;
         }
         k = k + 1;
     }
-    true
+    rest
 }

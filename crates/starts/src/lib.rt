@@ -16,8 +16,8 @@ mod table;
 
 // The least starts of the first n jobs, 0 in the places past them; if there are none, 0 everywhere.
 pub struct Least {
-    pub found: bool,
     pub starts: [u16; 24],
+    pub found: bool,
 }
 
 // The least starts of the first m delays and the first depth turns. Turn 2 * c + s takes side s of the clash whose code is clashes[c].

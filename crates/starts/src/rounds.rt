@@ -108,15 +108,15 @@ pub fn rounds(table: &[[u16; 24]; 24], old: [u16; 24], fours: usize, k: usize) -
 {
     if k == 0 {
         return Least {
-            found: false,
             starts: [0u16; 24],
+            found: false,
         };
     }
     let new = round(table, old, fours);
     if same(&old, &new) {
         return Least {
-            found: true,
             starts: old,
+            found: true,
         };
     }
     rounds(table, new, fours, k - 1)

@@ -1,35 +1,37 @@
 -- `list::add_pair` meets its contract. The invariant: what is left of the distances completes the pair.
-use Prim.Native.Nat.{_+_, _-_, _<_}
-use mathlib.Core.Path.{_≡_, _∙_}
+use Prim.Native.Nat.{_+_, _-_, _≤_, _<_}
+use mathlib.Core.Path.{_≡_, refl, _∙_}
 use mathlib.Core.Logic.{⊎-elim}
 use native.Mathlib.Omega.{arith}
 use borrow.Author.Needs.{needs}
+use Rattle.clashes.specs.Tables.{tableOf}
 use Rattle.clashes.specs.List.{listing}
-use Rattle.clashes.proofs.PairLaws.{Pairing, pair-first, pair-in, pair-out, pair-last}
+use Rattle.clashes.proofs.PairLaws.{Pairing, pair-first, pair-in, pair-out, pair-last, pair-jobs}
 use Rattle.clashes.proofs.StoreLaws.{listing-same}
 use Rattle.clashes.proofs.list.add_pair.Statement.{statement}
 use Rattle.clashes.proofs.list.add_pair.Tie as tie
 
 abbrev Inv-loop : tie.InvT-loop
-Inv-loop codes₀ count first second base end at₀ k₀ codes at k = (end ≡ 15 + first .ticks) × Pairing first second base (listing count codes₀) (listing at codes) k
+Inv-loop codes₀ count base p q masks others end at₀ k₀ codes at k =
+    ((p ≤ 16) × (q ≤ 16)) × ((end ≡ 15 + p) × Pairing (tableOf p masks) (tableOf q others) base (listing count codes₀) (listing at codes) k)
 
 abbrev μ-loop : tie.MeasureT-loop
-μ-loop codes₀ count first second base end at₀ k₀ codes at k = end - k
+μ-loop codes₀ count base p q masks others end at₀ k₀ codes at k = end - k
 
 wide-requires : tie.Need-wide-requires Inv-loop μ-loop
 wide-requires c κs = search needs
 
-add-end : tie.Need-add-end Inv-loop μ-loop
-add-end c = search needs
-
 wide-requires-2 : tie.Need-wide-requires-2 Inv-loop μ-loop
 wide-requires-2 c κs = search needs
+
+add-end : tie.Need-add-end Inv-loop μ-loop
+add-end c = search needs
 
 sub-k : tie.Need-sub-k Inv-loop μ-loop
 sub-k c = search needs
 
 loop-holds : tie.Need-loop-holds Inv-loop μ-loop
-loop-holds c = (omega (arith, c .before .wide .ensures), pair-first _ _ _ _ _ (omega (arith, c .wide2 .ensures)))
+loop-holds c = (search needs, (refl, pair-first _ _ _ _ _ refl))
 
 tables-meet-requires : tie.Need-tables-meet-requires Inv-loop μ-loop
 tables-meet-requires c κs = search needs
@@ -48,17 +50,23 @@ loop-less c = search needs
 
 loop-again : tie.Need-loop-again Inv-loop μ-loop
 loop-again c =
-    let i = c .before .before .before .loop .inv in
-    let below : c .before .before .before .loop .k < 31 = omega (arith, c .before .before .loop-test .taken, i .0, c .before .before .before .before .before .before .pre .0) in
+    let i = c .before .before .before .before .before .loop .inv in
+    let below : c .before .before .before .before .before .loop .k < 31 = omega (arith, c .before .before .before .before .loop-test .taken, i .1 .0, i .0) in
     let told = c .before .tables-meet .ensures in (
-    i .0,
-    ⊎-elim
-    (λ w. pair-in _ _ _ _ _ _ _ _ (i .1) below told (w .0 .taken) (listing-same (w .4) (w .3) ∙ w .2 .ensures))
-    (λ w. pair-out _ _ _ _ _ _ _ _ (i .1) below told (w .0 .left) (listing-same (w .2) (w .1)))
-    (c .if1 .came))
+      i .0,
+      (
+        i .1 .0,
+        ⊎-elim
+            (λ w. pair-in _ _ _ _ _ _ _ _ (i .1 .1) below told (w .0 .taken) (listing-same (w .4) (w .3) ∙ w .2 .ensures))
+            (λ w. pair-out _ _ _ _ _ _ _ _ (i .1 .1) below told (w .0 .left) (listing-same (w .2) (w .1)))
+            (c .if1 .came),
+      ),
+    )
 
 returns : tie.Need-returns Inv-loop μ-loop
-returns c = pair-last _ _ _ _ _ _ (c .before .loop .inv .1) (omega (arith, c .before .loop .inv .0, c .loop-test .left))
+returns c =
+    let i = c .before .loop .inv .1 in
+    pair-jobs _ _ _ _ _ _ _ (c .before .before .before .before .before .wide .ensures) (c .before .before .before .before .wide2 .ensures) (pair-last _ _ _ _ _ _ (i .1) (omega (arith, i .0, c .loop-test .left)))
 
 pub add-pair-spec : {M : Type 1} → statement M
 add-pair-spec =
@@ -67,8 +75,8 @@ add-pair-spec =
     Inv-loop
     μ-loop
     wide-requires
-    add-end
     wide-requires-2
+    add-end
     sub-k
     loop-holds
     tables-meet-requires

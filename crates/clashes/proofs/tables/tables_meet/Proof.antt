@@ -3,21 +3,16 @@ use Prim.Native.Nat.{_+_, _-_, min}
 use mathlib.Core.Path.{_≡_}
 use borrow.Author.Count.{falls}
 use borrow.Author.Needs.{needs}
+use Rattle.clashes.specs.Tables.{tableOf}
 use Rattle.clashes.proofs.TableLaws.{Clear, clear-none, clear-more, tables-met, tables-clear}
 use Rattle.clashes.proofs.tables.tables_meet.Statement.{statement}
 use Rattle.clashes.proofs.tables.tables_meet.Tie as tie
 
 abbrev Inv-loop : tie.InvT-loop
-Inv-loop k first second end a₀ a = (end ≡ min (first .ticks) (second .ticks + k - 15)) × Clear first second k a
+Inv-loop p first q second k end a₀ a = (end ≡ min p (q + k - 15)) × Clear (tableOf p first) (tableOf q second) k a
 
 abbrev μ-loop : tie.MeasureT-loop
-μ-loop k first second end a₀ a = end - a
-
-wide-requires : tie.Need-wide-requires Inv-loop μ-loop
-wide-requires c κs = search needs
-
-wide-requires-2 : tie.Need-wide-requires-2 Inv-loop μ-loop
-wide-requires-2 c κs = search needs
+μ-loop p first q second k end a₀ a = end - a
 
 end-tick-requires : tie.Need-end-tick-requires Inv-loop μ-loop
 end-tick-requires c κs = search needs
@@ -74,8 +69,6 @@ tables-meet-spec =
     (tie.spec
     Inv-loop
     μ-loop
-    wide-requires
-    wide-requires-2
     end-tick-requires
     first-tick-requires
     loop-holds

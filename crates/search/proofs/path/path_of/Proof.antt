@@ -28,9 +28,6 @@ mul-turn c = search needs
 element-copy-out-turn : tie.Need-element-copy-out-turn Inv-loop μ-loop
 element-copy-out-turn c = search needs
 
-cast-t13 : tie.Need-cast-t13 Inv-loop μ-loop
-cast-t13 c = search needs
-
 mul-path : tie.Need-mul-path Inv-loop μ-loop
 mul-path c = search needs
 
@@ -61,7 +58,6 @@ path-of-spec =
     loop-holds
     mul-turn
     element-copy-out-turn
-    cast-t13
     mul-path
     array-set-from-path
     add-k

@@ -1,0 +1,76 @@
+//! Opening a batch file, with refusals 1 to 10.
+
+use crate::starts::{least_starts, Table};
+use crate::{clashes, Batch, Delay, Job, Refusal, Search, CLASHES, DELAYS, JOBS, TICKS};
+
+/// Reads a batch file and gives a fresh search for it.
+pub fn open(mut file: &[u8]) -> Result<Search, Refusal> {
+    let batch = read_batch(&mut file)?;
+    refuse_if(8, !file.is_empty())?;
+    refuse_if(9, clashes(&batch).len() > CLASHES)?;
+    let mut table = Table::new(batch.jobs().len());
+    table.fill(batch.delays());
+    refuse_if(10, least_starts(&table).is_none())?;
+    Ok(Search::fresh(batch))
+}
+
+fn read_batch(file: &mut &[u8]) -> Result<Batch, Refusal> {
+    let header = next_line(file)?;
+    refuse_if(2, header[0] != 0xA0 || header.len() != 4)?;
+    refuse_if(3, header[1] != 1)?;
+    let (n, m) = (header[2], header[3]);
+    refuse_if(4, n == 0 || n as usize > JOBS || m as usize > DELAYS)?;
+    let mut batch = Batch { n, m, jobs: [Job::default(); JOBS], delays: [Delay::default(); DELAYS] };
+    for job in &mut batch.jobs[..n.into()] {
+        *job = read_job(&next_line(file)?)?;
+    }
+    for delay in &mut batch.delays[..m.into()] {
+        *delay = read_delay(&next_line(file)?, n)?;
+    }
+    Ok(batch)
+}
+
+fn read_job(line: &[u8]) -> Result<Job, Refusal> {
+    refuse_if(2, line[0] != 0xA1 || line.len() < 2 || line.len() != 2 + 2 * line[1] as usize)?;
+    refuse_if(4, line[1] == 0 || line[1] as usize > TICKS)?;
+    let mut job = Job { ticks: line[1], ..Job::default() };
+    for (mask, pair) in job.masks.iter_mut().zip(line[2..].chunks_exact(2)) {
+        *mask = u16::from_be_bytes([pair[0], pair[1]]);
+    }
+    Ok(job)
+}
+
+fn read_delay(line: &[u8], n: u8) -> Result<Delay, Refusal> {
+    refuse_if(2, line[0] != 0xA2 || line.len() != 5)?;
+    let delay = Delay { from: line[1], to: line[2], weight: i16::from_be_bytes([line[3], line[4]]) };
+    refuse_if(5, delay.from >= n || delay.to >= n || delay.from == delay.to)?;
+    refuse_if(6, !(-1000..=1000).contains(&delay.weight))?;
+    Ok(delay)
+}
+
+/// Takes the next line off the file and gives its bytes, at least one.
+fn next_line(file: &mut &[u8]) -> Result<Vec<u8>, Refusal> {
+    refuse_if(7, file.is_empty())?;
+    let end = file.iter().position(|byte| *byte == b'\n').ok_or(Refusal(1))?;
+    let digits = &file[..end];
+    *file = &file[end + 1..];
+    refuse_if(1, digits.is_empty() || digits.len() % 2 == 1)?;
+    let bytes: Option<Vec<u8>> = digits.chunks_exact(2).map(|pair| Some(16 * digit(pair[0])? + digit(pair[1])?)).collect();
+    bytes.ok_or(Refusal(1))
+}
+
+fn digit(byte: u8) -> Option<u8> {
+    match byte {
+        b'0'..=b'9' => Some(byte - b'0'),
+        b'A'..=b'F' => Some(byte - b'A' + 10),
+        _ => None,
+    }
+}
+
+fn refuse_if(number: u8, condition: bool) -> Result<(), Refusal> {
+    if condition {
+        Err(Refusal(number))
+    } else {
+        Ok(())
+    }
+}

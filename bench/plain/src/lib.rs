@@ -1,0 +1,131 @@
+//! The planner's search once more, in plain Rust: the peer that the proved library is measured beside.
+//!
+//! It takes the scope's steps as they stand (soundness of the record and the clash list once a run; at each node the weight table from delays and turns, rounds,
+//! latency, the first met clash, going back), written as one writes Rust for use: safe code, no dependency, nothing allocated at a node.
+
+mod file;
+mod search;
+mod sound;
+mod starts;
+
+pub use file::open;
+pub use search::Answer;
+
+pub const JOBS: usize = 24;
+pub const DELAYS: usize = 128;
+pub const TICKS: usize = 16;
+pub const CLASHES: usize = 1024;
+
+/// The number of a refusal.
+#[derive(Clone, Copy, Debug, PartialEq, Eq)]
+pub struct Refusal(pub u8);
+
+/// A reservation table: which stations the job holds in each of its ticks.
+#[derive(Clone, Copy, Debug, Default, PartialEq, Eq)]
+pub struct Job {
+    pub ticks: u8,
+    pub masks: [u16; TICKS],
+}
+
+/// `to` starts at least `weight` ticks after `from`.
+#[derive(Clone, Copy, Debug, Default, PartialEq, Eq)]
+pub struct Delay {
+    pub from: u8,
+    pub to: u8,
+    pub weight: i16,
+}
+
+#[derive(Clone, Debug, PartialEq, Eq)]
+pub struct Batch {
+    pub n: u8,
+    pub m: u8,
+    pub jobs: [Job; JOBS],
+    pub delays: [Delay; DELAYS],
+}
+
+impl Batch {
+    pub fn jobs(&self) -> &[Job] {
+        &self.jobs[..self.n.into()]
+    }
+
+    pub fn delays(&self) -> &[Delay] {
+        &self.delays[..self.m.into()]
+    }
+}
+
+/// The side that a turn takes of its clash (i, j, d): job j more than d ticks after job i, or less.
+#[derive(Clone, Copy, Debug, PartialEq, Eq)]
+pub enum Side {
+    Above,
+    Below,
+}
+
+/// A branching decision on a clash of the list.
+#[derive(Clone, Copy, Debug, PartialEq, Eq)]
+pub struct Turn {
+    pub clash: u16,
+    pub side: Side,
+}
+
+/// The shortest plan found so far.
+#[derive(Clone, Copy, Debug, PartialEq, Eq)]
+pub struct Best {
+    pub latency: u16,
+    pub starts: [u16; JOBS],
+}
+
+/// A search between two runs: plain data, which may come from anywhere.
+#[derive(Clone, Debug, PartialEq, Eq)]
+pub struct Search {
+    pub batch: Batch,
+    pub path: [Option<Turn>; CLASHES],
+    pub best: Option<Best>,
+    pub total: u32,
+    pub ended: bool,
+}
+
+impl Search {
+    pub fn fresh(batch: Batch) -> Search {
+        Search { batch, path: [None; CLASHES], best: None, total: 0, ended: false }
+    }
+
+    /// The number of turns on the path.
+    pub fn depth(&self) -> usize {
+        self.path.iter().take_while(|turn| turn.is_some()).count()
+    }
+}
+
+/// Two jobs hold one station in one tick exactly when `second` starts `distance` ticks after `first`, for some listed clash.
+#[derive(Clone, Copy, Debug, PartialEq, Eq)]
+pub struct Clash {
+    pub first: u8,
+    pub second: u8,
+    pub distance: i8,
+}
+
+/// The clash list, by first job, second job and distance.
+pub fn clashes(batch: &Batch) -> Vec<Clash> {
+    let jobs = batch.jobs();
+    let mut list = Vec::with_capacity(CLASHES);
+    for (i, first) in jobs.iter().enumerate() {
+        for (j, second) in jobs.iter().enumerate().skip(i + 1) {
+            for (distance, _) in (-15..).zip(apart(first, second)).filter(|(_, met)| *met) {
+                list.push(Clash { first: i as u8, second: j as u8, distance });
+            }
+        }
+    }
+    list
+}
+
+/// For each distance from -15 to 15, whether the jobs hold a station together at it.
+fn apart(first: &Job, second: &Job) -> [bool; 2 * TICKS - 1] {
+    let mut met = [false; 2 * TICKS - 1];
+    for (a, x) in first.masks[..first.ticks.into()].iter().enumerate() {
+        for (b, y) in second.masks[..second.ticks.into()].iter().enumerate() {
+            if x & y != 0 {
+                met[TICKS - 1 + a - b] = true;
+            }
+        }
+    }
+    met
+}

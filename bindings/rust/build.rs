@@ -1,0 +1,34 @@
+//! Links the planner's archive, libplanner_c.a: from the folder named by PLANNER_LIBRARY_DIR, else from the repository's target/staticlib.
+use std::env;
+use std::path::PathBuf;
+use std::process::exit;
+
+const VARIABLE: &str = "PLANNER_LIBRARY_DIR";
+const ARCHIVE: &str = "libplanner_c.a";
+
+fn stop(words: &str) -> ! {
+    eprintln!("planner: {words}");
+    exit(1);
+}
+
+fn main() {
+    println!("cargo:rerun-if-env-changed={VARIABLE}");
+    let folder = match env::var_os(VARIABLE) {
+        Some(named) => PathBuf::from(named),
+        None => PathBuf::from(env::var_os("CARGO_MANIFEST_DIR").expect("cargo names the package's folder")).join("../../target/staticlib"),
+    };
+    if folder.is_relative() {
+        stop(&format!("{VARIABLE} is '{}'; name the folder by its full path", folder.display()));
+    }
+    let archive = folder.join(ARCHIVE);
+    if !archive.is_file() {
+        stop(&format!(
+            "no {ARCHIVE} in '{}'; build it with `rt staticlib planner_c` in the planner's repository, which leaves it in target/staticlib, \
+             or name its folder in {VARIABLE}",
+            folder.display()
+        ));
+    }
+    println!("cargo:rerun-if-changed={}", archive.display());
+    println!("cargo:rustc-link-search=native={}", folder.display());
+    println!("cargo:rustc-link-lib=static=planner_c");
+}

@@ -1,0 +1,236 @@
+//! Plans batches of a print kiosk: each job gets a starting tick so that every delay is kept, no station is held by two jobs in one tick, and
+//! the plan is the shortest there is. This crate wraps the four calls of the proved planner's library, `libplanner_c.a`.
+//!
+//! A [`Search`] is opened once for a batch file and then run in budgets of search nodes, as small as the caller likes, until its answer is
+//! no longer [`Answer::Spent`]. What comes out does not depend on how the nodes were shared out among the runs.
+//!
+//! ```
+//! use planner::{Answer, Search};
+//!
+//! // Two jobs on one station: the second needs it in its first tick only.
+//! let mut search = Search::open(b"A0010200\nA1010001\nA103000100020002\n")?;
+//! let mut answer = search.run(0)?;
+//! while let Answer::Spent { .. } = answer {
+//!     // .. redraw the screen ..
+//!     answer = search.run(1)?;
+//! }
+//! assert_eq!(answer, Answer::Plan { latency: 3, total: 3 });
+//! let plan = search.plan().expect("the answer was a plan");
+//! assert_eq!(plan.starts(), [1, 0]);
+//! assert_eq!(search.plan_text()?, b"B00102000300000003\nB1000001\nB1010000\n");
+//! # Ok::<(), planner::Refusal>(())
+//! ```
+//!
+//! # Linking
+//!
+//! The build links `libplanner_c.a` from the folder that the environment variable `PLANNER_LIBRARY_DIR` names, else from the repository's
+//! `target/staticlib`, where `rt staticlib planner_c` leaves it. Linux on x86-64.
+#![warn(missing_docs)]
+
+mod ffi;
+mod refusal;
+
+pub use refusal::Refusal;
+use std::fmt;
+
+/// The most jobs of a batch.
+pub const JOBS: usize = 24;
+/// The most nodes of one run.
+pub const BUDGET: u32 = 1_000_000;
+/// The most nodes of a search, all runs together.
+pub const TOTAL: u32 = 100_000_000;
+/// The length of the longest plan text in bytes.
+pub const PLAN_TEXT: usize = 235;
+/// The length of the longest batch text in bytes.
+pub const BATCH_TEXT: usize = 3073;
+
+/// What a run came to. `total` is the number of nodes visited since the search was opened.
+#[derive(Clone, Copy, Debug, PartialEq, Eq, Hash)]
+pub enum Answer {
+    /// The budget is used and the search goes on: run again.
+    Spent {
+        /// Nodes visited so far.
+        total: u32,
+    },
+    /// The search has ended, and [`Search::plan`] is the shortest valid plan.
+    Plan {
+        /// The plan's latency: the tick in which its last job is through.
+        latency: u16,
+        /// Nodes that the search took.
+        total: u32,
+    },
+    /// The search has ended: no valid plan exists.
+    NoPlan {
+        /// Nodes that the search took.
+        total: u32,
+    },
+}
+
+/// A start for each job, and the latency that comes of them.
+#[derive(Clone, Copy, Debug, PartialEq, Eq, Hash)]
+pub struct Plan {
+    latency: u16,
+    n: u8,
+    starts: [u16; JOBS],
+}
+
+impl Plan {
+    /// The latency: the largest start + ticks over the jobs.
+    pub fn latency(&self) -> u16 {
+        self.latency
+    }
+
+    /// The starting tick of each job, in the order of the batch file.
+    pub fn starts(&self) -> &[u16] {
+        &self.starts[..usize::from(self.n)]
+    }
+}
+
+/// The search for a batch's shortest plan: 5,484 bytes of plain data, to be kept between runs, cloned or sent to another thread.
+#[derive(Clone, PartialEq, Eq)]
+pub struct Search {
+    record: ffi::Record,
+}
+
+impl Search {
+    /// Opens a batch file. Refusals 1 to 10.
+    ///
+    /// ```
+    /// use planner::{Refusal, Search};
+    /// assert_eq!(Search::open(b"A0010000\n"), Err(Refusal::Count));
+    /// ```
+    pub fn open(file: &[u8]) -> Result<Search, Refusal> {
+        let mut record = ffi::Record::blank();
+        // SAFETY: the file's pointer is valid for its length and not null, also where it is empty; the record is a local of the C layout.
+        let refusal = unsafe { ffi::planner_open(file.as_ptr(), file.len(), &mut record) };
+        accepted(refusal)?;
+        Ok(Search { record })
+    }
+
+    /// Visits at most `budget` nodes. A search that has ended visits none and gives its result again.
+    ///
+    /// Refusal 11 above [`BUDGET`]; refusal 14 if the search has not ended and its total would pass [`TOTAL`]. Then nothing is changed.
+    pub fn run(&mut self, budget: u32) -> Result<Answer, Refusal> {
+        let mut starts = [0u16; JOBS];
+        // SAFETY: the record is ours alone by &mut; the starts are a local of that many places; neither overlaps the other.
+        let answer = unsafe { ffi::planner_run(&mut self.record, budget, starts.as_mut_ptr(), starts.len()) };
+        accepted(answer.refusal)?;
+        match answer.kind {
+            ffi::SPENT => Ok(Answer::Spent { total: answer.total }),
+            ffi::PLAN => {
+                debug_assert_eq!(starts[..self.jobs()], self.record.starts[..self.jobs()]);
+                Ok(Answer::Plan { latency: answer.latency, total: answer.total })
+            }
+            ffi::NO_PLAN => Ok(Answer::NoPlan { total: answer.total }),
+            kind => unreachable!("planner_run answers no kind {kind} without a refusal"),
+        }
+    }
+
+    /// The shortest plan, once the search has ended; none while it goes on, or where no valid plan exists.
+    pub fn plan(&self) -> Option<Plan> {
+        self.best().filter(|_| self.has_ended())
+    }
+
+    /// The shortest plan known so far: valid, and maybe not yet the shortest.
+    pub fn best(&self) -> Option<Plan> {
+        if self.record.found == 0 {
+            return None;
+        }
+        let mut starts = [0; JOBS];
+        starts[..self.jobs()].copy_from_slice(&self.record.starts[..self.jobs()]);
+        Some(Plan { latency: self.record.latency, n: self.record.batch.n, starts })
+    }
+
+    /// Nodes visited since the search was opened.
+    pub fn total(&self) -> u32 {
+        self.record.total
+    }
+
+    /// Whether the search has ended.
+    pub fn has_ended(&self) -> bool {
+        self.record.ended != 0
+    }
+
+    /// The number of the batch's jobs.
+    pub fn jobs(&self) -> usize {
+        usize::from(self.record.batch.n)
+    }
+
+    /// Writes the plan text into the buffer's first bytes and gives their number; the rest of the buffer is left.
+    ///
+    /// Refusal 15 if the search has not ended; refusal 16 if the buffer is too short ([`PLAN_TEXT`] bytes always do).
+    pub fn write_plan(&self, buffer: &mut [u8]) -> Result<usize, Refusal> {
+        // SAFETY: the record is only read; the buffer is ours alone by &mut, valid for its length and not null, also where it is empty.
+        let text = unsafe { ffi::planner_write_plan(&self.record, buffer.as_mut_ptr(), buffer.len()) };
+        accepted(text.refusal)?;
+        Ok(text.length)
+    }
+
+    /// Writes the batch file, as it was opened, into the buffer's first bytes and gives their number; the rest of the buffer is left.
+    ///
+    /// Refusal 16 if the buffer is too short ([`BATCH_TEXT`] bytes always do).
+    pub fn write_batch(&self, buffer: &mut [u8]) -> Result<usize, Refusal> {
+        // SAFETY: the record is only read; the buffer is ours alone by &mut, valid for its length and not null, also where it is empty.
+        let text = unsafe { ffi::planner_write_batch(&self.record, buffer.as_mut_ptr(), buffer.len()) };
+        accepted(text.refusal)?;
+        Ok(text.length)
+    }
+
+    /// The plan text as bytes of its own. Refusal 15 if the search has not ended.
+    pub fn plan_text(&self) -> Result<Vec<u8>, Refusal> {
+        let mut buffer = [0; PLAN_TEXT];
+        let length = self.write_plan(&mut buffer)?;
+        Ok(buffer[..length].to_vec())
+    }
+
+    /// The batch file as bytes of its own, as it was opened.
+    pub fn batch_text(&self) -> Result<Vec<u8>, Refusal> {
+        let mut buffer = [0; BATCH_TEXT];
+        let length = self.write_batch(&mut buffer)?;
+        Ok(buffer[..length].to_vec())
+    }
+}
+
+impl fmt::Debug for Search {
+    fn fmt(&self, out: &mut fmt::Formatter<'_>) -> fmt::Result {
+        out.debug_struct("Search")
+            .field("jobs", &self.jobs())
+            .field("total", &self.total())
+            .field("has_ended", &self.has_ended())
+            .field("best", &self.best())
+            .finish_non_exhaustive()
+    }
+}
+
+/// The library's refusal number as a result: 0 is none.
+fn accepted(number: u8) -> Result<(), Refusal> {
+    match Refusal::from_number(number) {
+        Some(refusal) => Err(refusal),
+        None => {
+            assert_eq!(number, 0, "the library has refusals 1 to 16");
+            Ok(())
+        }
+    }
+}
+
+#[cfg(test)]
+mod tests {
+    use super::*;
+
+    /// The refusals that need a record which no safe call makes, or makes only after 100,000,000 nodes.
+    #[test]
+    fn records_from_elsewhere() {
+        let mut search = Search::open(b"A0010200\nA1010001\nA103000100020002\n").unwrap();
+        search.record.total = TOTAL - 1;
+        assert_eq!(search.run(2), Err(Refusal::Total));
+        assert_eq!(search.run(1), Ok(Answer::Spent { total: TOTAL }));
+        assert_eq!(search.run(1), Err(Refusal::Total));
+        assert_eq!(search.run(0), Ok(Answer::Spent { total: TOTAL }));
+        search.record.total = TOTAL + 1;
+        let before = search.clone();
+        assert_eq!(search.run(1), Err(Refusal::Record));
+        assert_eq!(search.plan_text(), Err(Refusal::Record));
+        assert_eq!(search.batch_text(), Err(Refusal::Record));
+        assert!(search == before);
+    }
+}

@@ -1,0 +1,115 @@
+//! What the tests share: a batch in plain numbers with its file, a check of plans tick by tick, and random batches from a fixed seed.
+#![allow(dead_code)]
+use planner::Plan;
+use std::collections::HashSet;
+use std::fs;
+use std::path::PathBuf;
+
+/// A file of the repository, named from its root.
+pub fn repository(name: &str) -> PathBuf {
+    PathBuf::from(env!("CARGO_MANIFEST_DIR")).join("../..").join(name)
+}
+
+/// Every batch file of a folder by its name, in order.
+pub fn batch_files(folder: &str) -> Vec<(String, Vec<u8>)> {
+    let paths = fs::read_dir(repository(folder)).expect("a folder of batch files").map(|entry| entry.unwrap().path());
+    let batches = paths.filter(|path| path.extension().is_some_and(|end| end == "batch"));
+    let mut files: Vec<_> =
+        batches.map(|path| (path.file_name().unwrap().to_string_lossy().into_owned(), fs::read(&path).unwrap())).collect();
+    files.sort();
+    files
+}
+
+/// Jobs as lists of masks, delays as (from, to, weight).
+#[derive(Clone, Debug)]
+pub struct Batch {
+    pub jobs: Vec<Vec<u16>>,
+    pub delays: Vec<(usize, usize, i16)>,
+}
+
+impl Batch {
+    /// The batch file by the format's text.
+    pub fn file(&self) -> Vec<u8> {
+        let mut text = format!("A001{:02X}{:02X}\n", self.jobs.len(), self.delays.len());
+        for masks in &self.jobs {
+            let digits: String = masks.iter().map(|mask| format!("{mask:04X}")).collect();
+            text += &format!("A1{:02X}{digits}\n", masks.len());
+        }
+        for (from, to, weight) in &self.delays {
+            text += &format!("A2{from:02X}{to:02X}{weight:04X}\n");
+        }
+        text.into_bytes()
+    }
+
+    /// Reads a file that the planner has accepted.
+    pub fn of(file: &[u8]) -> Batch {
+        let text = std::str::from_utf8(file).expect("an accepted file is plain text");
+        let number = |line: &str, from: usize, to: usize| u16::from_str_radix(&line[from..to], 16).unwrap();
+        let mut batch = Batch { jobs: Vec::new(), delays: Vec::new() };
+        for line in text.lines() {
+            match &line[..2] {
+                "A1" => batch.jobs.push((4..line.len()).step_by(4).map(|k| number(line, k, k + 4)).collect()),
+                "A2" => batch.delays.push((number(line, 2, 4).into(), number(line, 4, 6).into(), number(line, 6, 10) as i16)),
+                _ => (),
+            }
+        }
+        batch
+    }
+
+    /// What is wrong with a plan: a delay not kept, a station held twice in a tick, another latency.
+    pub fn fault(&self, plan: &Plan) -> Option<String> {
+        let starts = plan.starts();
+        if starts.len() != self.jobs.len() {
+            return Some(format!("{} starts for {} jobs", starts.len(), self.jobs.len()));
+        }
+        for &(from, to, weight) in &self.delays {
+            if i32::from(starts[to]) - i32::from(starts[from]) < i32::from(weight) {
+                return Some(format!("the delay from {from} to {to} by {weight} is not kept"));
+            }
+        }
+        let mut held = HashSet::new();
+        let mut latency = 0;
+        for (job, masks) in self.jobs.iter().enumerate() {
+            for (tick, mask) in masks.iter().enumerate() {
+                let now = usize::from(starts[job]) + tick;
+                latency = latency.max(now + 1);
+                for station in (0..16).filter(|station| mask >> station & 1 == 1) {
+                    if !held.insert((now, station)) {
+                        return Some(format!("station {station} is held twice in tick {now}"));
+                    }
+                }
+            }
+        }
+        (latency != usize::from(plan.latency())).then(|| format!("the latency is {latency}, not {}", plan.latency()))
+    }
+}
+
+/// Random numbers from a fixed seed (xorshift64*).
+pub struct Random(u64);
+
+impl Random {
+    pub fn new(seed: u64) -> Random {
+        Random(seed * 2 + 1)
+    }
+
+    /// A number below `bound`.
+    pub fn below(&mut self, bound: u64) -> u64 {
+        self.0 ^= self.0 >> 12;
+        self.0 ^= self.0 << 25;
+        self.0 ^= self.0 >> 27;
+        (self.0.wrapping_mul(0x2545_F491_4F6C_DD1D) >> 33) % bound
+    }
+
+    /// A batch of 1 to `most` jobs of 1 to 5 ticks on 3 stations, with up to 6 short delays either way.
+    pub fn batch(&mut self, most: u64) -> Batch {
+        let n = 1 + self.below(most);
+        let jobs = (0..n).map(|_| (0..=self.below(5)).map(|_| [0, 1, 2, 4, 5][self.below(5) as usize]).collect()).collect();
+        let count = if n > 1 { self.below(7) } else { 0 };
+        let delays = (0..count).map(|_| {
+            let from = self.below(n);
+            let to = (from + 1 + self.below(n - 1)) % n;
+            (from as usize, to as usize, self.below(9) as i16 - 5)
+        });
+        Batch { delays: delays.collect(), jobs }
+    }
+}

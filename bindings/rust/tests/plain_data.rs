@@ -1,0 +1,42 @@
+//! A search is plain data: it can be cloned, sent to another thread, and shown.
+use planner::{Answer, Search};
+
+const C3: &[u8] = b"A0010200\nA1010001\nA103000100020002\n";
+
+#[test]
+fn clones_go_apart() {
+    let mut search = Search::open(C3).unwrap();
+    search.run(2).unwrap();
+    let mut clone = search.clone();
+    assert_eq!(clone.run(1), Ok(Answer::Plan { latency: 3, total: 3 }));
+    assert_eq!((search.total(), search.has_ended(), search.plan()), (2, false, None));
+    let best = search.best().expect("a first plan after two nodes");
+    assert_eq!((best.latency(), best.starts()), (4, &[0, 1][..]));
+    assert_eq!(search.run(1), Ok(Answer::Plan { latency: 3, total: 3 }));
+    assert!(search == clone);
+}
+
+#[test]
+fn goes_to_other_threads() {
+    let search = Search::open(C3).unwrap();
+    let threads: Vec<_> = (1..=4)
+        .map(|budget| {
+            let mut mine = search.clone();
+            std::thread::spawn(move || {
+                while let Ok(Answer::Spent { .. }) = mine.run(budget) {}
+                mine.plan_text()
+            })
+        })
+        .collect();
+    assert_eq!(threads.len(), 4);
+    for thread in threads {
+        assert_eq!(thread.join().unwrap().unwrap(), b"B00102000300000003\nB1000001\nB1010000\n");
+    }
+}
+
+#[test]
+fn shows_where_it_stands() {
+    let mut search = Search::open(C3).unwrap();
+    search.run(1).unwrap();
+    assert_eq!(format!("{search:?}"), "Search { jobs: 2, total: 1, has_ended: false, best: None, .. }");
+}

@@ -1,0 +1,46 @@
+-- What each call yields on C's records: the planner's own `opened`, `ran` and `written`, on the search that the record stands for.
+use Prim.Native.Nat.{ℕ}
+use mathlib.Core.List.{List}
+use Rattle.model.specs.declared.Answer.{Answer}
+use Rattle.model.specs.declared.Answer.the-variants.{Spent, Plan, NoPlan, Refused}
+use Rattle.model.specs.declared.Search.{Search}
+use Rattle.model.specs.declared.Opened.{Opened}
+use Rattle.model.specs.declared.Ran.{Ran}
+use Rattle.model.specs.declared.Written.{Written}
+use Rattle.model.specs.Common.{Outcome}
+use Rattle.model.specs.Open.{opened}
+use Rattle.model.specs.Run.{ran}
+use Rattle.model.specs.Text.{written}
+use Rattle.planner_c.specs.declared.records.Record.{Record}
+use Rattle.planner_c.specs.declared.replies.Reply.{Reply}
+use Rattle.planner_c.specs.declared.replies.Text.{Text}
+use Rattle.planner_c.specs.Records.{searchIn, recordOf}
+use Rattle.planner_c.specs.Replies.{numberOf, replyOf, textOf}
+
+-- opening: the number, and the record of the fresh search or of the blank one
+unfoldable pub openedAs : Opened → ℕ × Record
+openedAs o = (numberOf (o .answer), recordOf (o .search))
+
+unfoldable pub openedRecord : List ℕ → ℕ × Record
+openedRecord file = openedAs (opened file)
+
+-- the record after a run: the one given where the run is refused, else the record of the search reached
+unfoldable pub recordAfter : Record → Answer → Search → Record
+recordAfter s (Spent total) next = recordOf next
+recordAfter s (Plan latency total) next = recordOf next
+recordAfter s (NoPlan total) next = recordOf next
+recordAfter s (Refused number) next = s
+
+-- a run: the reply and the record, and the starts list
+unfoldable pub ranAs : Record → Ran × List ℕ → (Reply × Record) × List ℕ
+ranAs s (r, list) = ((replyOf (r .answer), recordAfter s (r .answer) (r .search)), list)
+
+unfoldable pub ranRecord : Record → ℕ → List ℕ → (Reply × Record) × List ℕ
+ranRecord s budget list = ranAs s (ran (searchIn s) budget list)
+
+-- writing: the length or the refusal, and the buffer
+unfoldable pub textAs : Written × List ℕ → Text × List ℕ
+textAs (w, buffer) = (textOf w, buffer)
+
+unfoldable pub writtenText : Outcome (List ℕ) → List ℕ → Text × List ℕ
+writtenText text buffer = textAs (written text buffer)

@@ -1,0 +1,54 @@
+// The planner's calls for C: the caller keeps the record, plain numbers only, and lends it with its buffers. None asks anything of its caller
+// beyond valid memory. Each copies the record, makes the call by value and stores what it yields.
+use calls::batch_text;
+use calls::open_record;
+use calls::plan_text;
+use calls::run_record;
+use records::Record;
+use replies::Reply;
+use replies::Text;
+ghost use mathlib.Core.Path.{_≡_};
+ghost use Rattle.model.specs.Text.{planText, batchText};
+ghost use Rattle.planner_c.specs.Records.{searchIn};
+ghost use Rattle.planner_c.specs.Calls.{openedRecord, ranRecord, writtenText};
+
+mod calls;
+mod records;
+mod replies;
+
+// Opens a batch file: 0 and the record of its fresh search, or the refusal, 1 to 10, and the record of the blank one.
+#[no_mangle]
+pub extern "C" fn planner_open(file: &[u8], state: &mut Record) -> u8
+    ensures { λ r. ⌜ (r, now (state .exit)) ≡ openedRecord (now (file .entry)) ⌝ }
+{
+    let after = open_record(file);
+    *state = after.state;
+    after.number
+}
+
+// Visits nodes until the search has ended or the budget is used; with a plan, its starts are the first n places of `starts`.
+// Refusals 11 to 14 leave the record and the list as they were.
+#[no_mangle]
+pub extern "C" fn planner_run(state: &mut Record, budget: u32, starts: &mut [u16]) -> Reply
+    ensures { λ r. ⌜ ((r, now (state .exit)), now (starts .exit)) ≡ ranRecord (now (state .entry)) budget (now (starts .entry)) ⌝ }
+{
+    let after = run_record(*state, budget, starts);
+    *state = after.state;
+    after.reply
+}
+
+// The plan text of an ended search into a buffer: the number of bytes, or a refusal, 12, 15 or 16, that leaves the buffer as it was.
+#[no_mangle]
+pub extern "C" fn planner_write_plan(state: &Record, buffer: &mut [u8]) -> Text
+    ensures { λ r. ⌜ (r, now (buffer .exit)) ≡ writtenText (planText (searchIn (now (state .entry)))) (now (buffer .entry)) ⌝ }
+{
+    plan_text(*state, buffer)
+}
+
+// The file of the record's batch into a buffer: the number of bytes, or a refusal, 12 or 16, that leaves the buffer as it was.
+#[no_mangle]
+pub extern "C" fn planner_write_batch(state: &Record, buffer: &mut [u8]) -> Text
+    ensures { λ r. ⌜ (r, now (buffer .exit)) ≡ writtenText (batchText (searchIn (now (state .entry)))) (now (buffer .entry)) ⌝ }
+{
+    batch_text(*state, buffer)
+}

@@ -1,0 +1,181 @@
+/* The kiosk batch planner's library: libplanner_c.a, made by `rt staticlib planner_c`. Linux, x86-64; C99 or C++.
+ *
+ * A batch file is opened once; its search is then run in budgets of nodes, as small as the caller likes, until the answer is a plan or
+ * no plan; then the plan is written as text. The search lives in a planner_record that the caller owns and keeps between the calls.
+ *
+ * For every call:
+ * - No pointer may be null, also where the length that goes with it is 0. Each is aligned for its type and valid for the length given,
+ *   and no memory that a call may write overlaps other memory passed to it.
+ * - The call keeps no pointer, allocates nothing, and has no state of its own: what it does depends on its arguments alone. Calls
+ *   may be made from several threads at once as long as they share no memory that one of them writes.
+ * - Every call ends, a run after at most its budget of nodes. It takes less than 64 KB of stack.
+ * - Any bytes may stand in a record: one that makes no sense is refused with 12.
+ * - A refused planner_run, planner_write_plan or planner_write_batch leaves all memory as it was, to the byte.
+ * - A record has no padding but one byte after each job's ticks. It is never looked at, and planner_open may leave anything there, stale bytes of
+ *   the stack too: compare jobs field by field, and clear that byte where a record leaves the process.
+ */
+#ifndef PLANNER_H
+#define PLANNER_H
+
+#include <stddef.h>
+#include <stdint.h>
+
+#ifdef __cplusplus
+extern "C" {
+#endif
+
+/* ---- the limits */
+
+#define PLANNER_JOBS 24            /* the most jobs of a batch; the least is 1 */
+#define PLANNER_DELAYS 128         /* the most delays of a batch */
+#define PLANNER_TICKS 16           /* the most ticks of a job; the least is 1 */
+#define PLANNER_WEIGHT 1000        /* a delay's weight is -1000 to 1000 */
+#define PLANNER_TURNS 1024         /* the places of a path, and the most clashes of a batch */
+#define PLANNER_START 23000        /* the largest start of a sound record's best */
+#define PLANNER_LATENCY 23016      /* the largest latency of a sound record's best */
+#define PLANNER_BUDGET 1000000     /* the most nodes of one run */
+#define PLANNER_TOTAL 100000000    /* the most nodes of a whole search */
+#define PLANNER_PLAN_TEXT 235      /* the bytes of the longest plan text */
+#define PLANNER_BATCH_TEXT 3073    /* the bytes of the longest batch text, which is the longest batch file */
+
+/* ---- the record of a search */
+
+/* A delay: job `to` starts at least `weight` ticks after job `from`. */
+typedef struct planner_delay {
+    uint8_t from;
+    uint8_t to;
+    int16_t weight;
+} planner_delay;
+
+/* A job: bit s of masks[a] is set where it holds station s in its tick a, for a below `ticks`. */
+typedef struct planner_job {
+    uint8_t ticks;
+    uint16_t masks[PLANNER_TICKS];
+} planner_job;
+
+/* A batch: the first n jobs and the first m delays count. */
+typedef struct planner_batch {
+    uint8_t n;
+    uint8_t m;
+    planner_job jobs[PLANNER_JOBS];
+    planner_delay delays[PLANNER_DELAYS];
+} planner_batch;
+
+/* A turn of the search: the number of a clash in the batch's list, and the side taken, 0 or 1. */
+typedef struct planner_turn {
+    uint16_t clash;
+    uint16_t side;
+} planner_turn;
+
+/* The turn of a path's place that is empty. */
+#define PLANNER_EMPTY_CLASH 65535
+#define PLANNER_EMPTY_SIDE 0
+
+/* A search. Plain data: it may be copied, kept, and read at any time between calls. */
+typedef struct planner_record {
+    uint32_t total;                     /* nodes visited so far */
+    uint16_t latency;                   /* the latency of the best plan so far; 0 where there is none */
+    uint16_t found;                     /* 0 where there is no plan yet, else there is one */
+    uint16_t ended;                     /* 0 while the search goes on, else it has ended */
+    uint16_t starts[PLANNER_JOBS];      /* the starts of the best plan so far: the first batch.n count */
+    planner_batch batch;                /* as the file has it; no run changes it */
+    planner_turn path[PLANNER_TURNS];   /* where the search stands; empty places after the last turn */
+} planner_record;
+
+/* ---- the answers */
+
+#define PLANNER_SPENT 0      /* the budget is used and the search goes on: run again */
+#define PLANNER_PLAN 1       /* the search has ended with the shortest valid plan */
+#define PLANNER_NO_PLAN 2    /* the search has ended: no valid plan exists */
+#define PLANNER_REFUSED 3    /* the call was refused */
+
+typedef struct planner_answer {
+    uint8_t kind;        /* PLANNER_SPENT, PLANNER_PLAN, PLANNER_NO_PLAN or PLANNER_REFUSED */
+    uint8_t refusal;     /* 11 to 14 if refused, else 0 */
+    uint16_t latency;    /* the plan's latency, 0 where the kind is no plan's */
+    uint32_t total;      /* nodes visited since the opening; 0 if refused */
+} planner_answer;
+
+typedef struct planner_text {
+    size_t length;      /* the bytes written; 0 if refused */
+    uint8_t refusal;    /* 12, 15 or 16 if refused, else 0 */
+} planner_text;
+
+/* ---- the refusals: where several conditions hold, a call gives the first in the order that it asks them */
+
+#define PLANNER_REFUSED_LINE 1       /* a line without 0A, without digits, with an odd count, or with another byte than 0-9 and A-F */
+#define PLANNER_REFUSED_FRAME 2      /* the first byte is not the kind due, or the length is wrong */
+#define PLANNER_REFUSED_EDITION 3    /* the edition is not 01 */
+#define PLANNER_REFUSED_COUNT 4      /* n, m or p is outside its limits (1 to 24 jobs, at most 128 delays, 1 to 16 ticks) */
+#define PLANNER_REFUSED_JOB 5        /* a delay names a job of n or above, or one job twice */
+#define PLANNER_REFUSED_WEIGHT 6     /* a weight is outside -1,000 to 1,000 */
+#define PLANNER_REFUSED_MISSING 7    /* the file ends where a frame is due */
+#define PLANNER_REFUSED_EXTRA 8      /* bytes after the last frame */
+#define PLANNER_REFUSED_CLASHES 9    /* more than 1,024 clashes */
+#define PLANNER_REFUSED_DELAYS 10    /* no starts meet the delays */
+#define PLANNER_REFUSED_BUDGET 11    /* a budget above 1,000,000 */
+#define PLANNER_REFUSED_RECORD 12    /* the record is not sound */
+#define PLANNER_REFUSED_STARTS 13    /* the starts list is shorter than n */
+#define PLANNER_REFUSED_TOTAL 14     /* the search has not ended, and total + budget is above 100,000,000 */
+#define PLANNER_REFUSED_UNENDED 15   /* a plan text is wanted of a search that has not ended */
+#define PLANNER_REFUSED_BUFFER 16    /* the text is longer than the buffer */
+
+/* ---- the calls */
+
+/* Opens a batch file of `length` bytes. Reads the file, writes the whole record.
+ * Answers 0: the record is the fresh search of the file's batch, with 0 in the places that the batch does not use.
+ * Answers 1 to 10: refused. The record is the blank one (batch.n is 0), which every other call refuses with 12.
+ * Asked line by line, in a line PLANNER_REFUSED_MISSING first and then _LINE, _FRAME, _EDITION, _COUNT, _JOB, _WEIGHT;
+ * after the last line _EXTRA, _CLASHES, _DELAYS.
+ */
+uint8_t planner_open(const uint8_t *file, size_t length, planner_record *record);
+
+/* Visits nodes until the search has ended or `budget` of them are visited; on a search that has ended it visits none and answers again.
+ * Reads and writes the record, but for its batch, which stays as it is. `starts` has `count` places, at least batch.n of them
+ * (PLANNER_JOBS always do): with PLANNER_PLAN the first batch.n become the plan's starts and the rest is left, else all are left.
+ * Refused, asked in this order: PLANNER_REFUSED_BUDGET, _RECORD, _STARTS, _TOTAL. The record and the starts are then left as they were.
+ */
+planner_answer planner_run(planner_record *record, uint32_t budget, uint16_t *starts, size_t count);
+
+/* Writes the plan text of a search that has ended, or its one line for no plan, into the first bytes of `buffer` and answers their number.
+ * No zero byte is added; the rest of the `capacity` bytes and the record are left. PLANNER_PLAN_TEXT bytes always do.
+ * Refused, asked in this order: PLANNER_REFUSED_RECORD, _UNENDED, _BUFFER. The buffer is then left as it was.
+ */
+planner_text planner_write_plan(const planner_record *record, uint8_t *buffer, size_t capacity);
+
+/* Writes the batch file of the record, byte for byte the file that was opened, into the first bytes of `buffer` and answers their number.
+ * No zero byte is added; the rest of the `capacity` bytes and the record are left. PLANNER_BATCH_TEXT bytes always do.
+ * Refused, asked in this order: PLANNER_REFUSED_RECORD, _BUFFER. The buffer is then left as it was.
+ */
+planner_text planner_write_batch(const planner_record *record, uint8_t *buffer, size_t capacity);
+
+#ifdef __cplusplus
+}
+#endif
+
+/* ---- the layout that the library works with, asked of the compiler */
+
+#if defined(__cplusplus) && __cplusplus >= 201103L
+#define PLANNER_LAYOUT(name, condition) static_assert(condition, "planner.h: layout of " #name)
+#elif !defined(__cplusplus) && defined(__STDC_VERSION__) && __STDC_VERSION__ >= 201112L
+#define PLANNER_LAYOUT(name, condition) _Static_assert(condition, "planner.h: layout of " #name)
+#else
+#define PLANNER_LAYOUT(name, condition) typedef char planner_layout_of_##name[(condition) ? 1 : -1]
+#endif
+
+PLANNER_LAYOUT(delay, sizeof(planner_delay) == 4 && offsetof(planner_delay, to) == 1 && offsetof(planner_delay, weight) == 2);
+PLANNER_LAYOUT(job, sizeof(planner_job) == 34 && offsetof(planner_job, masks) == 2);
+PLANNER_LAYOUT(batch, sizeof(planner_batch) == 1330 && offsetof(planner_batch, m) == 1);
+PLANNER_LAYOUT(batch_lists, offsetof(planner_batch, jobs) == 2 && offsetof(planner_batch, delays) == 818);
+PLANNER_LAYOUT(turn, sizeof(planner_turn) == 4 && offsetof(planner_turn, side) == 2);
+PLANNER_LAYOUT(record, sizeof(planner_record) == 5484 && offsetof(planner_record, latency) == 4);
+PLANNER_LAYOUT(record_flags, offsetof(planner_record, found) == 6 && offsetof(planner_record, ended) == 8);
+PLANNER_LAYOUT(record_lists, offsetof(planner_record, starts) == 10 && offsetof(planner_record, batch) == 58);
+PLANNER_LAYOUT(record_path, offsetof(planner_record, path) == 1388);
+PLANNER_LAYOUT(answer, sizeof(planner_answer) == 8 && offsetof(planner_answer, refusal) == 1);
+PLANNER_LAYOUT(answer_values, offsetof(planner_answer, latency) == 2 && offsetof(planner_answer, total) == 4);
+PLANNER_LAYOUT(text, sizeof(planner_text) == 16 && offsetof(planner_text, refusal) == 8);
+
+#undef PLANNER_LAYOUT
+
+#endif

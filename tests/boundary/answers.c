@@ -1,0 +1,122 @@
+/* Searches whose results the documents give: the answers, the record after each run, the starts, and the memory that stays. */
+#include "check.h"
+#include <string.h>
+
+static void opened(const char *text, room *memory) {
+    fill(memory, 0xA5);
+    same(open_text(text, &memory->record), 0);
+}
+
+/* Field by field, the padding of the jobs apart. */
+static void same_batch(const planner_batch *got, const planner_batch *due) {
+    int k;
+    same(got->n, due->n);
+    same(got->m, due->m);
+    for (k = 0; k < PLANNER_JOBS; k++) {
+        same(got->jobs[k].ticks, due->jobs[k].ticks);
+        same_bytes(got->jobs[k].masks, due->jobs[k].masks, sizeof due->jobs[k].masks);
+    }
+    same_bytes(got->delays, due->delays, sizeof due->delays);
+}
+
+/* One run with `count` starts out of four, filled with A5 before. The batch and all around the record stay. */
+static planner_answer run_starts(room *memory, uint32_t budget, uint16_t starts[4], size_t count) {
+    planner_batch before = memory->record.batch;
+    planner_answer answer;
+    memset(starts, 0xA5, 4 * sizeof starts[0]);
+    answer = planner_run(&memory->record, budget, starts, count);
+    same_edges(memory, 0xA5);
+    same_batch(&memory->record.batch, &before);
+    return answer;
+}
+
+static void same_starts(const uint16_t starts[4], int a, int b, int c, int d) {
+    same(starts[0], a);
+    same(starts[1], b);
+    same(starts[2], c);
+    same(starts[3], d);
+}
+
+static void same_turn(planner_turn got, int clash, int side) {
+    same(got.clash, clash);
+    same(got.side, side);
+}
+
+/* The first plan that the steps find, 0 and 1, has latency 4; the second, 1 and 0, has 3. */
+static void check_c3(void) {
+    room memory;
+    planner_record *record = &memory.record;
+    uint16_t starts[4];
+    begin("C3 node by node: budgets 0, 1, 1, 1, and again after the end");
+    opened(C3, &memory);
+    same_answer(run_starts(&memory, 0, starts, 2), PLANNER_SPENT, 0, 0, 0);
+    same_starts(starts, 0xA5A5, 0xA5A5, 0xA5A5, 0xA5A5);
+    same_answer(run_starts(&memory, 1, starts, 2), PLANNER_SPENT, 0, 0, 1);
+    same_turn(record->path[0], 0, 0);
+    same_turn(record->path[1], PLANNER_EMPTY_CLASH, PLANNER_EMPTY_SIDE);
+    same(record->found, 0);
+    same_answer(run_starts(&memory, 1, starts, 2), PLANNER_SPENT, 0, 0, 2);
+    same_turn(record->path[0], 0, 1);
+    same(record->found, 1);
+    same(record->latency, 4);
+    same(record->starts[0], 0);
+    same(record->starts[1], 1);
+    same(record->ended, 0);
+    same_starts(starts, 0xA5A5, 0xA5A5, 0xA5A5, 0xA5A5);
+    same_answer(run_starts(&memory, 1, starts, 4), PLANNER_PLAN, 0, 3, 3);
+    same_starts(starts, 1, 0, 0xA5A5, 0xA5A5);
+    same_turn(record->path[0], PLANNER_EMPTY_CLASH, PLANNER_EMPTY_SIDE);
+    same(record->ended, 1);
+    same(record->latency, 3);
+    same(record->starts[0], 1);
+    same(record->starts[1], 0);
+    same((long)record->total, 3);
+    same_answer(run_starts(&memory, PLANNER_BUDGET, starts, 2), PLANNER_PLAN, 0, 3, 3);
+    same_starts(starts, 1, 0, 0xA5A5, 0xA5A5);
+}
+
+static void check_c5(void) {
+    room memory;
+    uint16_t starts[4];
+    begin("C5: no plan after 3 nodes, starts untouched");
+    opened(C5, &memory);
+    same_answer(run_starts(&memory, 2, starts, 2), PLANNER_SPENT, 0, 0, 2);
+    same_answer(run_starts(&memory, 5, starts, 2), PLANNER_NO_PLAN, 0, 0, 3);
+    same_starts(starts, 0xA5A5, 0xA5A5, 0xA5A5, 0xA5A5);
+    same(memory.record.found, 0);
+    same(memory.record.latency, 0);
+    same(memory.record.ended, 1);
+}
+
+/* examples/wedding.batch: jobs 0 and 1 clash at distances 1 and 2; the delays' least starts are 0, 2, 3 and meet the second. */
+static void check_wedding(void) {
+    room memory;
+    uint16_t starts[4];
+    begin("the wedding example: the first turn, then starts 0, 3, 4 with latency 6 after 3 nodes");
+    opened("A0010304\nA1040002000200080008\nA10200040008\nA10200100020\nA200010002\nA20100FFFC\nA201020001\nA20201FFFF\n", &memory);
+    same_answer(run_starts(&memory, 1, starts, 3), PLANNER_SPENT, 0, 0, 1);
+    same_turn(memory.record.path[0], 1, 0);
+    same_answer(run_starts(&memory, PLANNER_BUDGET, starts, 3), PLANNER_PLAN, 0, 6, 3);
+    same_starts(starts, 0, 3, 4, 0xA5A5);
+}
+
+static void check_large(void) {
+    room memory;
+    uint16_t starts[4];
+    begin("C10: numbers of two bytes in starts and latency");
+    opened("A0010201\nA1010001\nA1010002\nA2000103E8\n", &memory);
+    same_answer(run_starts(&memory, 1, starts, 2), PLANNER_PLAN, 0, 1001, 1);
+    same_starts(starts, 0, 1000, 0xA5A5, 0xA5A5);
+    same(memory.record.latency, 1001);
+    same(memory.record.starts[1], 1000);
+    opened("A0010201\nA1010001\nA1010002\nA20001FC18\n", &memory);
+    same_answer(run_starts(&memory, 1, starts, 2), PLANNER_PLAN, 0, 1, 1);
+    same_starts(starts, 0, 0, 0xA5A5, 0xA5A5);
+}
+
+void check_answers(void) {
+    check_c3();
+    check_c5();
+    check_wedding();
+    check_large();
+}

@@ -1,0 +1,141 @@
+/* Each limit of the header provoked at the limit and one past it. */
+#include "check.h"
+#include <string.h>
+
+/* Opening's answer for a batch. */
+static int opening(const plain *batch, planner_record *record) {
+    uint8_t file[ROOM];
+    return planner_open(file, file_of(batch, file), record);
+}
+
+static void check_counts(void) {
+    planner_record record;
+    plain batch = idle(PLANNER_JOBS, 1, 0);
+    begin("PLANNER_JOBS: 1 to 24");
+    same(opening(&batch, &record), 0);
+    same(record.batch.n, 24);
+    batch = idle(PLANNER_JOBS + 1, 1, 0);
+    same(opening(&batch, &record), PLANNER_REFUSED_COUNT);
+    batch = idle(1, 1, 0);
+    same(opening(&batch, &record), 0);
+    begin("PLANNER_DELAYS: 0 to 128");
+    batch = idle(2, 1, PLANNER_DELAYS);
+    same(opening(&batch, &record), 0);
+    same(record.batch.m, 128);
+    batch = idle(2, 1, PLANNER_DELAYS + 1);
+    same(opening(&batch, &record), PLANNER_REFUSED_COUNT);
+    begin("PLANNER_TICKS: 1 to 16");
+    batch = idle(1, PLANNER_TICKS, 0);
+    same(opening(&batch, &record), 0);
+    same(record.batch.jobs[0].ticks, 16);
+    same(open_text("A0010100\nA111"
+                   "0000000000000000000000000000000000000000000000000000000000000000"
+                   "0000\n", &record), PLANNER_REFUSED_COUNT);
+    same(open_text("A0010100\nA100\n", &record), PLANNER_REFUSED_COUNT);
+}
+
+static void check_weights(void) {
+    static const int signs[2] = {1, -1};
+    planner_record record;
+    plain batch = idle(2, 1, 1);
+    int s;
+    begin("PLANNER_WEIGHT: -1,000 to 1,000");
+    for (s = 0; s < 2; s++) {
+        batch.weight[0] = signs[s] * PLANNER_WEIGHT;
+        same(opening(&batch, &record), 0);
+        same(record.batch.delays[0].weight, signs[s] * 1000);
+        batch.weight[0] = signs[s] * (PLANNER_WEIGHT + 1);
+        same(opening(&batch, &record), PLANNER_REFUSED_WEIGHT);
+    }
+}
+
+/* The document's test batch: 1,024 clashes with 13 ticks in the last job, more with 14. */
+static plain crowded(int last) {
+    plain batch = idle(11, 16, 0);
+    int i, a;
+    batch.ticks[8] = 1;
+    batch.ticks[10] = last;
+    for (i = 0; i < 11; i++)
+        for (a = 0; a < batch.ticks[i]; a++)
+            batch.masks[i][a] = i < 9 ? 1 : 2;
+    return batch;
+}
+
+static void check_turns(void) {
+    planner_record record;
+    plain batch = crowded(13);
+    int k;
+    begin("PLANNER_TURNS: 1,024 clashes, and a path with a turn on each; 1,025 clashes");
+    same(opening(&batch, &record), 0);
+    for (k = 0; k < PLANNER_TURNS; k++) {
+        record.path[k].clash = (uint16_t)(PLANNER_TURNS - 1 - k);
+        record.path[k].side = (uint16_t)(k % 2);
+    }
+    same_answer(run(&record, 0), PLANNER_SPENT, 0, 0, 0);
+    for (k = 0; k < PLANNER_TURNS; k++)
+        same(record.path[k].clash, PLANNER_TURNS - 1 - k);
+    record.path[PLANNER_TURNS - 1].clash = PLANNER_TURNS;
+    same_answer(run(&record, 0), PLANNER_REFUSED, PLANNER_REFUSED_RECORD, 0, 0);
+    batch = crowded(14);
+    same(opening(&batch, &record), PLANNER_REFUSED_CLASHES);
+}
+
+/* No start passes PLANNER_START, but a record that came from elsewhere may hold it. */
+static void check_best(void) {
+    planner_record record;
+    begin("PLANNER_START and PLANNER_LATENCY");
+    same(open_text(C3, &record), 0);
+    record.ended = record.found = 1;
+    record.starts[0] = PLANNER_START;
+    record.latency = PLANNER_LATENCY;
+    same_answer(run(&record, 0), PLANNER_PLAN, 0, 23016, 0);
+    record.starts[0] = PLANNER_START + 1;
+    same_answer(run(&record, 0), PLANNER_REFUSED, PLANNER_REFUSED_RECORD, 0, 0);
+    record.starts[0] = PLANNER_START;
+    record.latency = PLANNER_LATENCY + 1;
+    same_answer(run(&record, 0), PLANNER_REFUSED, PLANNER_REFUSED_RECORD, 0, 0);
+}
+
+static void check_nodes(void) {
+    planner_record record;
+    begin("PLANNER_BUDGET: 1,000,000");
+    same(open_text(C3, &record), 0);
+    same_answer(run(&record, PLANNER_BUDGET + 1), PLANNER_REFUSED, PLANNER_REFUSED_BUDGET, 0, 0);
+    same_answer(run(&record, PLANNER_BUDGET), PLANNER_PLAN, 0, 3, 3);
+    begin("PLANNER_TOTAL: 100,000,000, not asked of an ended search");
+    same(open_text(C3, &record), 0);
+    record.total = PLANNER_TOTAL - 1;
+    same_answer(run(&record, 2), PLANNER_REFUSED, PLANNER_REFUSED_TOTAL, 0, 0);
+    same_answer(run(&record, 1), PLANNER_SPENT, 0, 0, 100000000);
+    same_answer(run(&record, 1), PLANNER_REFUSED, PLANNER_REFUSED_TOTAL, 0, 0);
+    same_answer(run(&record, 0), PLANNER_SPENT, 0, 0, 100000000);
+    same(open_text("A0010100\nA1010001\n", &record), 0);
+    record.total = PLANNER_TOTAL - 1;
+    same_answer(run(&record, 1), PLANNER_PLAN, 0, 1, 100000000);
+    same_answer(run(&record, PLANNER_BUDGET), PLANNER_PLAN, 0, 1, 100000000);
+}
+
+static void check_empty(void) {
+    planner_record record;
+    begin("PLANNER_EMPTY_CLASH and PLANNER_EMPTY_SIDE: the one turn that is empty");
+    same(open_text(C3, &record), 0);
+    memset(record.path, 0, sizeof record.path);
+    same_answer(run(&record, 0), PLANNER_REFUSED, PLANNER_REFUSED_RECORD, 0, 0);
+    same(open_text(C3, &record), 0);
+    record.path[0].clash = PLANNER_EMPTY_CLASH - 1;
+    same_answer(run(&record, 0), PLANNER_REFUSED, PLANNER_REFUSED_RECORD, 0, 0);
+    record.path[0].clash = PLANNER_EMPTY_CLASH;
+    record.path[0].side = PLANNER_EMPTY_SIDE + 1;
+    same_answer(run(&record, 0), PLANNER_REFUSED, PLANNER_REFUSED_RECORD, 0, 0);
+    record.path[0].side = PLANNER_EMPTY_SIDE;
+    same_answer(run(&record, 0), PLANNER_SPENT, 0, 0, 0);
+}
+
+void check_limits(void) {
+    check_counts();
+    check_weights();
+    check_turns();
+    check_best();
+    check_nodes();
+    check_empty();
+}

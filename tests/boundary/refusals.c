@@ -1,0 +1,110 @@
+/* Each refusal 1 to 16 provoked once and compared with its name, and what a refused call leaves. */
+#include "check.h"
+#include <string.h>
+
+static void refused_file(const char *name, const char *text, int refusal, int number) {
+    planner_record record;
+    begin(name);
+    same(refusal, number);
+    same(open_text(text, &record), refusal);
+    same(record.batch.n, 0);
+}
+
+static void check_opening(void) {
+    refused_file("1: an odd count of digits", "A0010\n", PLANNER_REFUSED_LINE, 1);
+    refused_file("2: a job line too short for its ticks", "A0010100\nA10100\n", PLANNER_REFUSED_FRAME, 2);
+    refused_file("3: edition 02", "A0020100\nA1010001\n", PLANNER_REFUSED_EDITION, 3);
+    refused_file("4: no jobs", "A0010000\n", PLANNER_REFUSED_COUNT, 4);
+    refused_file("5: a delay from a job to itself", "A0010201\nA1010001\nA1010002\nA200000001\n", PLANNER_REFUSED_JOB, 5);
+    refused_file("6: weight 1,001", "A0010201\nA1010001\nA1010002\nA2000103E9\n", PLANNER_REFUSED_WEIGHT, 6);
+    refused_file("7: an empty file", "", PLANNER_REFUSED_MISSING, 7);
+    refused_file("8: 0A after the last frame", "A0010100\nA1010001\n\n", PLANNER_REFUSED_EXTRA, 8);
+    refused_file("10: C6", "A0010202\nA1010001\nA1010002\nA200010001\nA201000000\n", PLANNER_REFUSED_DELAYS, 10);
+}
+
+static void check_clashes(void) {
+    plain batch = idle(9, 16, 0);
+    planner_record record;
+    uint8_t file[ROOM];
+    int i, a;
+    begin("9: 9 jobs of 16 masks 0001, 1,116 clashes");
+    for (i = 0; i < 9; i++)
+        for (a = 0; a < 16; a++)
+            batch.masks[i][a] = 1;
+    same(PLANNER_REFUSED_CLASHES, 9);
+    same(planner_open(file, file_of(&batch, file), &record), PLANNER_REFUSED_CLASHES);
+}
+
+/* A refused run leaves every byte of the record and of the starts, padding included. */
+static void refused_run(const room *before, uint32_t budget, size_t count, int refusal, int number) {
+    room after;
+    uint16_t starts[2];
+    memcpy(&after, before, sizeof after);
+    memset(starts, 0xA5, sizeof starts);
+    same(refusal, number);
+    same_answer(planner_run(&after.record, budget, starts, count), PLANNER_REFUSED, refusal, 0, 0);
+    same_bytes(&after, before, sizeof after);
+    same_fill(starts, 0xA5, sizeof starts);
+}
+
+static void check_running(void) {
+    room memory;
+    fill(&memory, 0xA5);
+    begin("11: budget 1,000,001, asked before 12, 13 and 14");
+    same(open_text(C3, &memory.record), 0);
+    refused_run(&memory, PLANNER_BUDGET + 1, 2, PLANNER_REFUSED_BUDGET, 11);
+    refused_run(&memory, 0xFFFFFFFF, 0, PLANNER_REFUSED_BUDGET, 11);
+    begin("13: one place too few in the starts, asked before 14");
+    refused_run(&memory, 1, 1, PLANNER_REFUSED_STARTS, 13);
+    refused_run(&memory, 1, 0, PLANNER_REFUSED_STARTS, 13);
+    memory.record.total = PLANNER_TOTAL;
+    refused_run(&memory, 1, 1, PLANNER_REFUSED_STARTS, 13);
+    begin("14: total 99,999,999 and budget 2");
+    memory.record.total = PLANNER_TOTAL - 1;
+    refused_run(&memory, 2, 2, PLANNER_REFUSED_TOTAL, 14);
+    begin("12: total 100,000,001, asked before 13");
+    memory.record.total = PLANNER_TOTAL + 1;
+    refused_run(&memory, 1, 2, PLANNER_REFUSED_RECORD, 12);
+    refused_run(&memory, 1, 0, PLANNER_REFUSED_RECORD, 12);
+    refused_run(&memory, PLANNER_BUDGET + 1, 0, PLANNER_REFUSED_BUDGET, 11);
+    begin("12: records of one byte all over");
+    fill(&memory, 0x00);
+    refused_run(&memory, 1, 2, PLANNER_REFUSED_RECORD, 12);
+    fill(&memory, 0x01);
+    refused_run(&memory, 1, 2, PLANNER_REFUSED_RECORD, 12);
+    fill(&memory, 0xFF);
+    refused_run(&memory, 1, 2, PLANNER_REFUSED_RECORD, 12);
+}
+
+static void refused_text(planner_text got, int refusal, int number) {
+    same(refusal, number);
+    same((long)got.length, 0);
+    same(got.refusal, refusal);
+}
+
+static void check_writing(void) {
+    planner_record record;
+    uint8_t buffer[ROOM];
+    memset(buffer, '.', sizeof buffer);
+    begin("15: a plan text of a fresh search, asked before 16");
+    same(open_text(C3, &record), 0);
+    refused_text(planner_write_plan(&record, buffer, sizeof buffer), PLANNER_REFUSED_UNENDED, 15);
+    refused_text(planner_write_plan(&record, buffer, 0), PLANNER_REFUSED_UNENDED, 15);
+    begin("16: buffers of no bytes");
+    refused_text(planner_write_batch(&record, buffer, 0), PLANNER_REFUSED_BUFFER, 16);
+    same(run(&record, 3).kind, PLANNER_PLAN);
+    refused_text(planner_write_plan(&record, buffer, 0), PLANNER_REFUSED_BUFFER, 16);
+    begin("12 of both texts, asked before 15 and 16");
+    record.batch.n = 0;
+    refused_text(planner_write_plan(&record, buffer, 0), PLANNER_REFUSED_RECORD, 12);
+    refused_text(planner_write_batch(&record, buffer, 0), PLANNER_REFUSED_RECORD, 12);
+    begin("a refused text leaves the buffer");
+    same_fill(buffer, '.', sizeof buffer);
+}
+
+void check_refusals(void) {
+    check_opening();
+    check_clashes();
+    check_running();
+    check_writing();
+}

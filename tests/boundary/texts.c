@@ -1,0 +1,100 @@
+/* Plan text and batch text: what is written, what is left, and the longest of each in a buffer that fits exactly. */
+#include "check.h"
+#include <string.h>
+
+typedef planner_text (*writer)(const planner_record *, uint8_t *, size_t);
+
+/* The text into buffers that are too short, exact, and longer; the record and the bytes past the text stay. */
+static void same_text(writer write, const planner_record *record, const uint8_t *due, size_t length) {
+    planner_record before;
+    uint8_t buffer[ROOM];
+    planner_text got;
+    memcpy(&before, record, sizeof before);
+    memset(buffer, '.', sizeof buffer);
+    got = write(record, buffer, length - 1);
+    same((long)got.length, 0);
+    same(got.refusal, PLANNER_REFUSED_BUFFER);
+    same_fill(buffer, '.', sizeof buffer);
+    got = write(record, buffer, length);
+    same((long)got.length, (long)length);
+    same(got.refusal, 0);
+    same_bytes(buffer, due, length);
+    same_fill(buffer + length, '.', sizeof buffer - length);
+    memset(buffer, '#', sizeof buffer);
+    got = write(record, buffer, sizeof buffer);
+    same((long)got.length, (long)length);
+    same(got.refusal, 0);
+    same_bytes(buffer, due, length);
+    same_fill(buffer + length, '#', sizeof buffer - length);
+    same_bytes(record, &before, sizeof before);
+}
+
+static void same_string(writer write, const planner_record *record, const char *due) {
+    same_text(write, record, (const uint8_t *)due, strlen(due));
+}
+
+static void check_short(void) {
+    planner_record record;
+    memset(&record, 0xA5, sizeof record);
+    begin("C3: both texts");
+    same(open_text(C3, &record), 0);
+    same_string(planner_write_batch, &record, C3);
+    same(run(&record, 3).kind, PLANNER_PLAN);
+    same_string(planner_write_plan, &record, "B00102000300000003\nB1000001\nB1010000\n");
+    same_string(planner_write_batch, &record, C3);
+    begin("C5: the line for no plan");
+    same(open_text(C5, &record), 0);
+    same(run(&record, 3).kind, PLANNER_NO_PLAN);
+    same_string(planner_write_plan, &record, "B200000003\n");
+    same_string(planner_write_batch, &record, C5);
+}
+
+/* 24 jobs, each 978 to 1,000 ticks after the one before: a line of 19 bytes and 24 of 9. */
+static void check_longest_plan(void) {
+    plain batch = idle(24, 16, 23);
+    planner_record record;
+    char due[ROOM], *out = due;
+    static const char digits[] = "0123456789ABCDEF";
+    int i, start = 0, nibble;
+    begin("PLANNER_PLAN_TEXT: the plan text of 24 jobs");
+    for (i = 0; i < 23; i++) {
+        batch.from[i] = i;
+        batch.to[i] = i + 1;
+        batch.weight[i] = 1000 - i;
+    }
+    open_plain(&batch, &record);
+    same(run(&record, 1).kind, PLANNER_PLAN);
+    out += strlen(strcpy(out, "B0011858EB00000001\n"));
+    for (i = 0; i < 24; i++) {
+        out += strlen(strcpy(out, "B1"));
+        *out++ = digits[i / 16];
+        *out++ = digits[i % 16];
+        for (nibble = 12; nibble >= 0; nibble -= 4)
+            *out++ = digits[start >> nibble & 15];
+        *out++ = '\n';
+        start += 1000 - i;
+    }
+    same((long)(out - due), PLANNER_PLAN_TEXT);
+    same_text(planner_write_plan, &record, (const uint8_t *)due, PLANNER_PLAN_TEXT);
+}
+
+static void check_longest_batch(void) {
+    plain batch = idle(24, 16, 128);
+    planner_record record;
+    uint8_t file[ROOM];
+    int k;
+    begin("PLANNER_BATCH_TEXT: the batch text of 24 jobs of 16 ticks and 128 delays");
+    for (k = 0; k < 16; k++)
+        batch.masks[k][k] = 0x8421 + k;
+    for (k = 0; k < 128; k++)
+        batch.weight[k] = 1000 - 15 * k;
+    open_plain(&batch, &record);
+    same((long)file_of(&batch, file), PLANNER_BATCH_TEXT);
+    same_text(planner_write_batch, &record, file, PLANNER_BATCH_TEXT);
+}
+
+void check_texts(void) {
+    check_short();
+    check_longest_plan();
+    check_longest_batch();
+}

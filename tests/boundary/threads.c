@@ -1,0 +1,69 @@
+/* Several threads at once, each with a record of its own and little stack: each gets what the document says. */
+#define _POSIX_C_SOURCE 200809L
+#include "check.h"
+#include <pthread.h>
+#include <string.h>
+
+#define THREADS 4
+#define RUNS 200
+
+/* A call takes less than 64 KB of stack; the rest is for the thread itself and for a search's record and texts. */
+#define STACK (64 * 1024 + 24 * 1024)
+
+/* The four tasks of the source on reservation tables: starts 0, 3, 1, 2, latency 5, 17 nodes. */
+static const char TASKS[] = "A0010400\nA1040003000000080000\nA10200030000\nA1040003000000080000\nA103000500000001\n";
+static const char PLAN[] = "B00104000500000011\nB1000000\nB1010003\nB1020001\nB1030002\n";
+
+typedef struct work {
+    pthread_t thread;
+    uint32_t budget;
+    int right;
+} work;
+
+/* 1 if a text was written and is the one due. */
+static int written(planner_text text, const uint8_t *buffer, const char *due) {
+    return text.refusal == 0 && text.length == strlen(due) && memcmp(buffer, due, text.length) == 0;
+}
+
+/* One search in small budgets, with both texts at its end: 1 if it comes out as the document has it. */
+static int search(uint32_t budget) {
+    static const uint16_t due[4] = {0, 3, 1, 2};
+    planner_record record;
+    planner_answer answer;
+    uint16_t starts[4];
+    uint8_t plan[PLANNER_PLAN_TEXT], batch[sizeof TASKS];
+    if (open_text(TASKS, &record) != 0)
+        return 0;
+    do
+        answer = planner_run(&record, budget, starts, 4);
+    while (answer.kind == PLANNER_SPENT);
+    return answer.kind == PLANNER_PLAN && answer.latency == 5 && answer.total == 17 && memcmp(starts, due, sizeof due) == 0 &&
+           written(planner_write_plan(&record, plan, sizeof plan), plan, PLAN) &&
+           written(planner_write_batch(&record, batch, sizeof batch), batch, TASKS);
+}
+
+static void *searches(void *given) {
+    work *mine = given;
+    int k;
+    for (k = 0; k < RUNS; k++)
+        mine->right += search(mine->budget);
+    return NULL;
+}
+
+void check_threads(void) {
+    pthread_attr_t little;
+    work all[THREADS];
+    int k;
+    begin("four threads of 88 KB of stack with 200 searches each, budgets 1 to 4");
+    same(pthread_attr_init(&little), 0);
+    same(pthread_attr_setstacksize(&little, STACK), 0);
+    for (k = 0; k < THREADS; k++) {
+        all[k].budget = (uint32_t)k + 1;
+        all[k].right = 0;
+        same(pthread_create(&all[k].thread, &little, searches, &all[k]), 0);
+    }
+    for (k = 0; k < THREADS; k++) {
+        same(pthread_join(all[k].thread, NULL), 0);
+        same(all[k].right, RUNS);
+    }
+}
