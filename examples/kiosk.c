@@ -1,9 +1,10 @@
 /* A kiosk's redraw loop around the planner: each frame of 16 ms gives it at most about 4 ms, in a budget of nodes chosen from the measured rate.
  *
  * `kiosk FILE` draws its progress on one line of standard error and prints the plan text on standard output. It waits for the next frame only
- * where standard error is a terminal. Exit status: 0 with a text, 1 with a refused file, 2 with wrong usage.
+ * where standard error is a terminal. Exit status: 0 with a text, 1 if the file or a run is refused or the text cannot
+ * be written, 2 with wrong usage or a file that cannot be read.
  *
- * cc -std=c99 -I include -o kiosk examples/kiosk.c target/staticlib/libplanner_c.a
+ * cc -std=c99 -O2 -I include -o target/kiosk examples/kiosk.c target/staticlib/libplanner_c.a
  */
 #define _POSIX_C_SOURCE 200809L
 #include "planner.h"
@@ -117,6 +118,10 @@ int main(int count, char **arguments) {
         return 2;
     }
     length = fread(file, 1, sizeof file, in);
+    if (ferror(in)) {
+        perror(arguments[1]);
+        return 2;
+    }
     fclose(in);
     opened = planner_open(file, length, &record);
     if (opened != 0)
@@ -127,5 +132,5 @@ int main(int count, char **arguments) {
     written = planner_write_plan(&record, text, sizeof text);
     if (written.refusal != 0)
         return refused(written.refusal);
-    return fwrite(text, 1, written.length, stdout) == written.length ? 0 : 1;
+    return fwrite(text, 1, written.length, stdout) == written.length && fflush(stdout) == 0 ? 0 : 1;
 }

@@ -10,9 +10,9 @@
  *   may be made from several threads at once as long as they share no memory that one of them writes.
  * - Every call ends, a run after at most its budget of nodes. It takes less than 64 KB of stack.
  * - Any bytes may stand in a record: one that makes no sense is refused with 12.
- * - A refused planner_run, planner_write_plan or planner_write_batch leaves all memory as it was, to the byte.
- * - A record has no padding but one byte after each job's ticks. It is never looked at, and planner_open may leave anything there, stale bytes of
- *   the stack too: compare jobs field by field, and clear that byte where a record leaves the process.
+ * - A refused call leaves all memory as it was.
+ * - A record has no padding but one byte after each job's ticks. It is never looked at, and an opening or a run that is not refused may leave
+ *   anything there, stale bytes of the stack too: compare jobs field by field, and clear that byte where a record leaves the process.
  */
 #ifndef PLANNER_H
 #define PLANNER_H
@@ -92,7 +92,7 @@ typedef struct planner_record {
 typedef struct planner_answer {
     uint8_t kind;        /* PLANNER_SPENT, PLANNER_PLAN, PLANNER_NO_PLAN or PLANNER_REFUSED */
     uint8_t refusal;     /* 11 to 14 if refused, else 0 */
-    uint16_t latency;    /* the plan's latency, 0 where the kind is no plan's */
+    uint16_t latency;    /* the plan's latency; 0 unless the kind is PLANNER_PLAN */
     uint32_t total;      /* nodes visited since the opening; 0 if refused */
 } planner_answer;
 
@@ -122,9 +122,9 @@ typedef struct planner_text {
 
 /* ---- the calls */
 
-/* Opens a batch file of `length` bytes. Reads the file, writes the whole record.
+/* Opens a batch file of `length` bytes.
  * Answers 0: the record is the fresh search of the file's batch, with 0 in the places that the batch does not use.
- * Answers 1 to 10: refused. The record is the blank one (batch.n is 0), which every other call refuses with 12.
+ * Answers 1 to 10: refused. The record is left as it was.
  * Asked line by line, in a line PLANNER_REFUSED_MISSING first and then _LINE, _FRAME, _EDITION, _COUNT, _JOB, _WEIGHT;
  * after the last line _EXTRA, _CLASHES, _DELAYS.
  */

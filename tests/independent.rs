@@ -338,8 +338,8 @@ fn shown(r: &Record) -> String {
 /// Sets one place; false where an argument is out of range.
 fn set(r: &mut Record, field: u64, a: usize, b: usize, value: u64) -> bool {
     let most = match field {
-        0 | 1 | 2 | 4 | 5 | 8 => 255,
-        3 | 6 | 7 | 10 => 65_535,
+        0 | 1 | 2 | 4 | 5 => 255,
+        3 | 6 | 7 | 8 | 10 => 65_535,
         9 => 65_536,
         11 => 4_294_967_295,
         12 => 1,

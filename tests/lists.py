@@ -74,7 +74,7 @@ def edits(n, m, clashes):
     for value in (0, 1):  # a ring of sum 0, and of sum 1
         yield [one(4, 0, 0), one(5, 0, 1), one(6, 0, 32768 + value), one(4, 1, 1), one(5, 1, 0), one(6, 1, 32768)]
     fresh = [one(12, 0, 0)] + [call for place in range(12) for call in turn(place, EMPTY, 0)]
-    for side in (0, 1, 2, 255):
+    for side in (0, 1, 2, 256, 257, 65535):
         for clash in (0, clashes - 1, clashes, 1023, 1024, EMPTY - 1, EMPTY):
             yield fresh + turn(0, clash, side)
         yield fresh + turn(0, 0, 0) + turn(1, 0, side)  # one clash twice

@@ -75,9 +75,11 @@ static void check_best(void) {
     for (i = 0; i < PLANNER_JOBS; i++)
         same(starts[i], i * 911 + 257);
     same_fill(starts + PLANNER_JOBS, 0xA5, 2 * sizeof starts[0]);
-    record.found = 255;
-    record.ended = 255;
+    record.found = 0x0100;
+    record.ended = 0x0100;
     same_answer(run(&record, 7), PLANNER_PLAN, 0, 5003, 0x01020304);
+    same(record.found, 1);
+    same(record.ended, 1);
     record = ended();
     record.found = 0;
     same_answer(run(&record, 7), PLANNER_NO_PLAN, 0, 0, 0x01020304);
@@ -182,6 +184,10 @@ static void check_path(void) {
     record.path[0].side = 1;
     same_sound(&record);
     record.path[0].side = 2;
+    same_unsound(&record);
+    record.path[0].side = 0x0100;
+    same_unsound(&record);
+    record.path[0].side = 0x0101;
     same_unsound(&record);
     record.path[0].side = 0;
     record.path[0].clash = 16;

@@ -53,7 +53,7 @@ static void same_unsearched(const planner_record *got) {
     }
 }
 
-/* Opens the file over two fillings; the edges stay, and the record is read by `compare`. */
+/* Opens the file over two fillings; the edges stay, and the record is read by `compare`. A refused file leaves every byte: there is nothing to compare. */
 static void opened(const plain *batch, int refusal, void (*compare)(const planner_record *, const plain *)) {
     static const int fillings[2] = {0xA5, 0x5A};
     uint8_t file[ROOM], copy[ROOM];
@@ -66,7 +66,10 @@ static void opened(const plain *batch, int refusal, void (*compare)(const planne
         same(planner_open(file, length, &memory.record), refusal);
         same_edges(&memory, fillings[f]);
         same_bytes(file, copy, length);
-        compare(&memory.record, batch);
+        if (refusal == 0)
+            compare(&memory.record, batch);
+        else
+            same_fill(&memory.record, fillings[f], sizeof memory.record);
     }
 }
 
@@ -82,14 +85,6 @@ static void delays(const planner_record *record, const plain *due) {
 
 static void unsearched(const planner_record *record, const plain *due) {
     (void)due;
-    same_unsearched(record);
-}
-
-static void blank(const planner_record *record, const plain *due) {
-    plain nothing = idle(0, 0, 0);
-    (void)due;
-    jobs(record, &nothing);
-    delays(record, &nothing);
     same_unsearched(record);
 }
 
@@ -145,12 +140,12 @@ void check_layout(void) {
     batch = idle(2, 3, 1);
     opened(&batch, 0, jobs);
     opened(&batch, 0, delays);
-    begin("a refused file leaves the blank record, wherever it is refused");
+    begin("a refused file leaves the record as it was, to the byte, wherever it is refused");
     batch.weight[0] = 1001;
-    opened(&batch, PLANNER_REFUSED_WEIGHT, blank);
+    opened(&batch, PLANNER_REFUSED_WEIGHT, NULL);
     batch = filled(3);
     batch.from[127] = 24;
-    opened(&batch, PLANNER_REFUSED_JOB, blank);
+    opened(&batch, PLANNER_REFUSED_JOB, NULL);
     batch = idle(0, 1, 0);
-    opened(&batch, PLANNER_REFUSED_COUNT, blank);
+    opened(&batch, PLANNER_REFUSED_COUNT, NULL);
 }

@@ -4,10 +4,11 @@
 
 static void refused_file(const char *name, const char *text, int refusal, int number) {
     planner_record record;
+    memset(&record, 0xA5, sizeof record);
     begin(name);
     same(refusal, number);
     same(open_text(text, &record), refusal);
-    same(record.batch.n, 0);
+    same_fill(&record, 0xA5, sizeof record);
 }
 
 static void check_opening(void) {
@@ -49,9 +50,12 @@ static void refused_run(const room *before, uint32_t budget, size_t count, int r
 
 static void check_running(void) {
     room memory;
+    int k;
     fill(&memory, 0xA5);
     begin("11: budget 1,000,001, asked before 12, 13 and 14");
     same(open_text(C3, &memory.record), 0);
+    for (k = 0; k < PLANNER_JOBS; k++) /* the jobs' padding */
+        ((uint8_t *)&memory.record.batch.jobs[k])[1] = 0xA5;
     refused_run(&memory, PLANNER_BUDGET + 1, 2, PLANNER_REFUSED_BUDGET, 11);
     refused_run(&memory, 0xFFFFFFFF, 0, PLANNER_REFUSED_BUDGET, 11);
     begin("13: one place too few in the starts, asked before 14");

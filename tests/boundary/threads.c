@@ -2,13 +2,14 @@
 #define _POSIX_C_SOURCE 200809L
 #include "check.h"
 #include <pthread.h>
+#include <stdio.h>
 #include <string.h>
 
 #define THREADS 4
 #define RUNS 200
 
 /* A call takes less than 64 KB of stack; the rest is for the thread itself and for a search's record and texts. */
-#define STACK (64 * 1024 + 24 * 1024)
+#define STACK (64 * 1024 + 16 * 1024)
 
 /* The four tasks of the source on reservation tables: starts 0, 3, 1, 2, latency 5, 17 nodes. */
 static const char TASKS[] = "A0010400\nA1040003000000080000\nA10200030000\nA1040003000000080000\nA103000500000001\n";
@@ -42,9 +43,37 @@ static int search(uint32_t budget) {
            written(planner_write_batch(&record, batch, sizeof batch), batch, TASKS);
 }
 
+/* A chain of 24 jobs, each 10 ticks after the one before: every round raises one start more, so that the rounds go as deep as they can. */
+static int chain(const char *file) {
+    planner_record record;
+    uint16_t starts[PLANNER_JOBS];
+    planner_answer answer;
+    int k;
+    if (open_text(file, &record) != 0)
+        return 0;
+    answer = planner_run(&record, 1, starts, PLANNER_JOBS);
+    for (k = 0; k < PLANNER_JOBS; k++)
+        if (answer.kind != PLANNER_PLAN || starts[k] != 10 * k)
+            return 0;
+    return answer.latency == 231 && answer.total == 1;
+}
+
+static char long_file[ROOM];
+
+/* The file of the chain: station k % 16 for job k, no two of one station within 16 ticks. */
+static void write_chain(void) {
+    char *end = long_file + sprintf(long_file, "A0011817\n");
+    int k;
+    for (k = 0; k < PLANNER_JOBS; k++)
+        end += sprintf(end, "A101%04X\n", 1u << k % 16);
+    for (k = 1; k < PLANNER_JOBS; k++)
+        end += sprintf(end, "A2%02X%02X000A\n", k - 1, k);
+}
+
 static void *searches(void *given) {
     work *mine = given;
     int k;
+    mine->right += chain(long_file);
     for (k = 0; k < RUNS; k++)
         mine->right += search(mine->budget);
     return NULL;
@@ -54,7 +83,8 @@ void check_threads(void) {
     pthread_attr_t little;
     work all[THREADS];
     int k;
-    begin("four threads of 88 KB of stack with 200 searches each, budgets 1 to 4");
+    begin("four threads of 80 KB of stack with 201 searches each, one as deep as rounds go");
+    write_chain();
     same(pthread_attr_init(&little), 0);
     same(pthread_attr_setstacksize(&little, STACK), 0);
     for (k = 0; k < THREADS; k++) {
@@ -64,6 +94,6 @@ void check_threads(void) {
     }
     for (k = 0; k < THREADS; k++) {
         same(pthread_join(all[k].thread, NULL), 0);
-        same(all[k].right, RUNS);
+        same(all[k].right, RUNS + 1);
     }
 }

@@ -1,7 +1,8 @@
 //! A kiosk's redraw loop around the planner: each frame of 16 ms gives it at most about 4 ms, in a budget of nodes chosen from the measured rate.
 //!
 //! `redraw FILE` draws its progress on one line of standard error and prints the plan text on standard output. It waits for the next frame only
-//! where standard error is a terminal. Exit status: 0 with a text, 1 with a refused file, 2 with wrong usage.
+//! where standard error is a terminal. Exit status: 0 with a text, 1 if the file or a run is refused or the text cannot
+//! be written, 2 with wrong usage or a file that cannot be read.
 use planner::{Answer, Refusal, Search, BUDGET, TOTAL};
 use std::io::{stderr, stdout, IsTerminal, Write};
 use std::process::ExitCode;
@@ -69,7 +70,7 @@ fn main() -> ExitCode {
         }
     };
     match plan(&file) {
-        Ok(text) => match stdout().write_all(&text) {
+        Ok(text) => match stdout().write_all(&text).and_then(|()| stdout().flush()) {
             Ok(()) => ExitCode::SUCCESS,
             Err(_) => ExitCode::FAILURE,
         },

@@ -54,7 +54,7 @@ pub enum Answer {
     },
     /// The search has ended, and [`Search::plan`] is the shortest valid plan.
     Plan {
-        /// The plan's latency: the tick in which its last job is through.
+        /// The plan's latency: the largest start + ticks over the jobs.
         latency: u16,
         /// Nodes that the search took.
         total: u32,

@@ -34,8 +34,8 @@ fn seconds(field: usize) -> u64 {
 // How many values the field holds; none where there is no such field.
 fn values(field: usize) -> u64 {
     match field {
-        0 | 1 | 2 | 4 | 5 | 8 => 256,
-        3 | 6 | 7 | 10 => 65536,
+        0 | 1 | 2 | 4 | 5 => 256,
+        3 | 6 | 7 | 8 | 10 => 65536,
         9 => 65537,
         11 => ANY,
         12 => 2,
@@ -143,7 +143,7 @@ fn set_path(path: [Turn; 1024], field: usize, a: usize, value: u64) -> [Turn; 10
         if field == 7 {
             turn.clash = (value % 65536) as u16;
         } else {
-            turn.side = (value % 256) as u16;
+            turn.side = (value % 65536) as u16;
         }
         next[a] = turn;
     }

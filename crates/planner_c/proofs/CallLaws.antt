@@ -13,14 +13,15 @@ use Rattle.model.specs.Text.{written}
 use Rattle.planner_c.specs.declared.records.Record.{Record}
 use Rattle.planner_c.specs.declared.replies.Reply.{Reply}
 use Rattle.planner_c.specs.declared.replies.Text.{Text}
-use Rattle.planner_c.specs.Records.{searchIn, recordOf}
+use Rattle.planner_c.specs.Records.{searchIn}
 use Rattle.planner_c.specs.Replies.{numberOf, replyOf, textOf}
-use Rattle.planner_c.specs.Calls.{openedAs, openedRecord, recordAfter, ranAs, ranRecord, textAs, writtenText}
+use Rattle.planner_c.specs.Calls.{recordOpened, openedAs, openedRecord, recordAfter, ranAs, ranRecord, textAs, writtenText}
 
 -- opening
-pub record-opened : (file : List ℕ) (o : Opened) (k : ℕ) (s : Record) → o ≡ opened file → k ≡ numberOf (o .answer) → s ≡ recordOf (o .search) → (k, s) ≡ openedRecord file
+pub record-opened : (s : Record) (file : List ℕ) (o : Opened) (k : ℕ) (after : Record) → o ≡ opened file → k ≡ numberOf (o .answer) → after ≡ recordOpened s (o .answer) (o .search)
+    → (k, after) ≡ openedRecord s file
 unfolding openedRecord openedAs
-record-opened file o k s e p q = (λ i. (p i, q i)) ∙ ap openedAs e
+record-opened s file o k after e p q = (λ i. (p i, q i)) ∙ ap (openedAs s) e
 
 -- running
 pub record-ran :

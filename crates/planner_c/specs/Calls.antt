@@ -3,6 +3,8 @@ use Prim.Native.Nat.{ℕ}
 use mathlib.Core.List.{List}
 use Rattle.model.specs.declared.Answer.{Answer}
 use Rattle.model.specs.declared.Answer.the-variants.{Spent, Plan, NoPlan, Refused}
+use Rattle.model.specs.declared.Opening.{Opening}
+use Rattle.model.specs.declared.Opening.the-variants.{Accepted, Refused as Closed}
 use Rattle.model.specs.declared.Search.{Search}
 use Rattle.model.specs.declared.Opened.{Opened}
 use Rattle.model.specs.declared.Ran.{Ran}
@@ -17,12 +19,17 @@ use Rattle.planner_c.specs.declared.replies.Text.{Text}
 use Rattle.planner_c.specs.Records.{searchIn, recordOf}
 use Rattle.planner_c.specs.Replies.{numberOf, replyOf, textOf}
 
--- opening: the number, and the record of the fresh search or of the blank one
-unfoldable pub openedAs : Opened → ℕ × Record
-openedAs o = (numberOf (o .answer), recordOf (o .search))
+-- the record after opening: the one given where the file is refused, else the record of the fresh search
+unfoldable pub recordOpened : Record → Opening → Search → Record
+recordOpened s Accepted fresh = recordOf fresh
+recordOpened s (Closed number) fresh = s
 
-unfoldable pub openedRecord : List ℕ → ℕ × Record
-openedRecord file = openedAs (opened file)
+-- opening: the number and the record
+unfoldable pub openedAs : Record → Opened → ℕ × Record
+openedAs s o = (numberOf (o .answer), recordOpened s (o .answer) (o .search))
+
+unfoldable pub openedRecord : Record → List ℕ → ℕ × Record
+openedRecord s file = openedAs s (opened file)
 
 -- the record after a run: the one given where the run is refused, else the record of the search reached
 unfoldable pub recordAfter : Record → Answer → Search → Record

@@ -8,11 +8,12 @@ use crate::replies::number_of;
 use crate::replies::reply_of;
 use crate::replies::text_of;
 use model::Answer;
+use model::Opening;
 use model::Search;
 ghost use mathlib.Core.Path.{_≡_};
 ghost use Rattle.model.specs.Text.{planText, batchText};
 ghost use Rattle.planner_c.specs.Records.{searchIn};
-ghost use Rattle.planner_c.specs.Calls.{openedRecord, recordAfter, ranRecord, writtenText};
+ghost use Rattle.planner_c.specs.Calls.{recordOpened, openedRecord, recordAfter, ranRecord, writtenText};
 
 // What opening yields: 0 or the refusal, and the record.
 pub struct Started {
@@ -26,18 +27,29 @@ pub struct Stepped {
     pub state: Record,
 }
 
+// The record after opening: the same one if the file was refused.
+fn record_opened(state: Record, answer: Opening, search: Search) -> Record
+    ensures { λ r. ⌜ r ≡ recordOpened state answer search ⌝ }
+{
+    let fresh = record_of(search);
+    match answer {
+        Opening::Accepted => fresh,
+        Opening::Refused(_) => state,
+    }
+}
+
 // Opens a batch file.
-pub fn open_record(file: &[u8]) -> Started
-    ensures { λ r. ⌜ (r .number, r .state) ≡ openedRecord (now (file .entry)) ⌝ }
+pub fn open_record(file: &[u8], state: Record) -> Started
+    ensures { λ r. ⌜ (r .number, r .state) ≡ openedRecord state (now (file .entry)) ⌝ }
 {
     let opened = planner::open(file);
     let answer = opened.answer;
     let search = opened.search;
     let number = number_of(answer);
-    let state = record_of(search);
+    let after = record_opened(state, answer, search);
     Started {
         number: number,
-        state: state,
+        state: after,
     }
 }
 

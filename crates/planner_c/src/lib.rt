@@ -1,5 +1,5 @@
 // The planner's calls for C: the caller keeps the record, plain numbers only, and lends it with its buffers. None asks anything of its caller
-// beyond valid memory. Each copies the record, makes the call by value and stores what it yields.
+// beyond valid memory. Each copies the record and makes the call by value; opening and running store what it yields.
 use calls::batch_text;
 use calls::open_record;
 use calls::plan_text;
@@ -16,12 +16,12 @@ mod calls;
 mod records;
 mod replies;
 
-// Opens a batch file: 0 and the record of its fresh search, or the refusal, 1 to 10, and the record of the blank one.
+// Opens a batch file: 0 and the record of its fresh search, or the refusal, 1 to 10, which leaves the record as it was.
 #[no_mangle]
 pub extern "C" fn planner_open(file: &[u8], state: &mut Record) -> u8
-    ensures { λ r. ⌜ (r, now (state .exit)) ≡ openedRecord (now (file .entry)) ⌝ }
+    ensures { λ r. ⌜ (r, now (state .exit)) ≡ openedRecord (now (state .entry)) (now (file .entry)) ⌝ }
 {
-    let after = open_record(file);
+    let after = open_record(file, *state);
     *state = after.state;
     after.number
 }

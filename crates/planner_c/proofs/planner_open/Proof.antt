@@ -1,5 +1,5 @@
--- `planner_c::planner_open` meets its contract: a walk of its MIR, by hand. `open_record`, of which the proof knows only that it meets its contract, is
--- called on the file; then the record behind the reference is opened, set to the one that it yields, and shut.
+-- `planner_c::planner_open` meets its contract: a walk of its MIR, by hand. The record behind the reference is opened and copied, `open_record`, of which
+-- the proof knows only that it meets its contract, is called on the file and the copy, and the reference is shut at the record that it yields.
 use mathlib.Core.Path.{_≡_, refl, ap}
 use Prim.Native.Nat.{ℕ}
 use mathlib.Core.List.{List, [], _∷_}
@@ -17,7 +17,7 @@ use ghost.Atoms.{Atoms, sem}
 use contract.Monad.{Fun, fact}
 use contract.Running.{givenOf, tables, tablesOf}
 use types.Kit.{Given, ‵, raw, some, later, _⊛_, ⋆, _$_, _∵_, !, qed, by, move, keep, drop, use1, use2, split, join, pick, rewrite, fsplit, fsplit3, fjoin, fjoin3, feqI, suffices, frame, await, done}
-use types.Run.{look, init, store-raw, forget, stop, hop, fld, from, load, of-opd, and-then, no-more, assigns, land, returns, enter, alloc1, alloc0, params1, pass1, pass0, free1, free0}
+use types.Run.{look, look-raw, init, store-raw, forget, stop, hop, fld, from, load, of-opd, and-then, no-more, assigns, land, returns, enter, alloc1, alloc0, params1, pass1, pass0, free1, free0}
 use types.Part.{whole, sub, look-in}
 use types.SemTy.{Body}
 use sound.WpLaws.{FmC, fmOf, WpFn-mono}
@@ -65,8 +65,8 @@ parts : (r : Started) (w : Val) → Is S.the-row r (w ∷ []) → Is u8 (r .numb
 parts r w is = LL.owed S.the-type S′.the-laws r _ is
 
 -- what both contracts say of what is yielded
-abbrev Says : List ℕ → Started → Type 0
-Says ys r = (r .number, r .state) ≡ openedRecord ys
+abbrev Says : Record → List ℕ → Started → Type 0
+Says h ys r = (r .number, r .state) ≡ openedRecord h ys
 
 module _ {M : Type 1} (𝓤 : URA M) (H : Heap 𝓤) (A : Atoms 𝓤) (W : Given 𝓤 H A) (at-mem : Memory → SProp 𝓤) (run : Routine → Fun 𝓤) where
   -- the contract of the function that is called
@@ -74,8 +74,8 @@ module _ {M : Type 1} (𝓤 : URA M) (H : Heap 𝓤) (A : Atoms 𝓤) (W : Given
   Call = tripleOf 𝓤 H A callee.signature (callee.spec 𝓤 H A at-mem run)
 
   -- of what the call ensures, the clause: it has no last value
-  told : (κ : Lft) (x : RefT (List ℕ)) (r : Started) → ent 𝓤 (ensured 𝓤 H A callee.ended (callee.clauses 𝓤 H A at-mem run) (κ, tt) (x, tt) tt r) (fact 𝓤 (Says (x .now) r))
-  told κ x r = exE 𝓤 _ (λ ws. snd∗ 𝓤 (sem 𝓤 H A (lasts callee.ended (κ, tt) (x, tt) ws)) (fact 𝓤 (Says (x .now) r)))
+  told : (κ : Lft) (x : RefT (List ℕ)) (h : Record) (r : Started) → ent 𝓤 (ensured 𝓤 H A callee.ended (callee.clauses 𝓤 H A at-mem run) (κ, tt) (x, (h, tt)) tt r) (fact 𝓤 (Says h (x .now) r))
+  told κ x h r = exE 𝓤 _ (λ ws. snd∗ 𝓤 (sem 𝓤 H A (lasts callee.ended (κ, tt) (x, (h, tt)) ws)) (fact 𝓤 (Says h (x .now) r)))
 
   module _ (κ κ′ : Lft) (q q′ : Share) (b o : ℕ) (γ : GName) (ys : List ℕ) (b′ o′ : ℕ) (γ′ : GName) (h : Record) where
     -- what is passed: the file and the record's reference, and their machine values
@@ -103,17 +103,18 @@ module _ {M : Type 1} (𝓤 : URA M) (H : Heap 𝓤) (A : Atoms 𝓤) (W : Given
     abbrev Post : Val → SProp 𝓤
     Post = walkOf 𝓤 H A f.ended stayed (f.clauses 𝓤 H A at-mem run) .post (((κ, (κ′, tt)), (q, (q′, tt)), tt, (x, (y, tt)), at), tt)
 
-    -- the call's lifetime, share, argument and machine value: the file goes at its own
+    -- the call's lifetime, share, arguments and machine values: the file goes at its own
     abbrev at-call : Call .Ghost
-    at-call = (((κ, tt), (q, tt), tt, (x, tt), (s ∷ [], tt)), tt)
+    at-call = (((κ, tt), (q, tt), tt, (x, (h, tt)), (s ∷ [], (mach h ∷ [], tt))), tt)
 
     -- what the call asks is had
-    goes : ent 𝓤 (sep 𝓤 (A .lft κ q) (sem 𝓤 H A Own)) (Call .pre at-call)
-    goes =
-        qed W (‵ (flft κ q) ∷ ‵ Own ∷ []) ∵ nothing ! $ move ! (1 ∷ 0 ∷ []) $ join ! $ nothing ! $ move ! (2 ∷ 0 ∷ []) $ fjoin ! $ move ! (1 ∷ 0 ∷ []) $ join ! $ frame ! $ done !
+    goes : Is T.the-row h (mach h ∷ []) → ent 𝓤 (sep 𝓤 (A .lft κ q) (sem 𝓤 H A Own)) (Call .pre at-call)
+    goes was =
+        qed W (‵ (flft κ q) ∷ ‵ Own ∷ []) ∵ nothing ! $ move ! (1 ∷ 0 ∷ []) $ join ! $ nothing ! $ owned ! T.the-row (Is T.the-row) (LL.makes T.the-type T′.the-plain 𝓤 H A) h _ was $ fjoin ! $
+        move ! (2 ∷ 0 ∷ []) $ fjoin ! $ move ! (1 ∷ 0 ∷ []) $ join ! $ frame ! $ done !
 
     -- the contract holds of what is owned at exit
-    exits : (r : Started) → Is u8 (r .number) (vint w8 (r .number) ∷ []) → Says ys r
+    exits : (r : Started) → Is u8 (r .number) (vint w8 (r .number) ∷ []) → Says h ys r
         → ent 𝓤 (⋆ 𝓤 H A (‵ (fobs γ′ (T.the-row .coded .code (r .state))) ∷ ‵ (fbor κ′ (Body (mem T.the-row) b′ o′ γ′)) ∷ ‵ (flft κ′ q′) ∷ (‵ (flft κ q) ⊛ ‵ ftrue) ∷ ‵ Own ∷ [])) (Post (vint w8 (r .number)))
     exits r is e =
         qed W (‵ (fobs γ′ (T.the-row .coded .code (r .state))) ∷ ‵ (fbor κ′ (Body (mem T.the-row) b′ o′ γ′)) ∷ ‵ (flft κ′ q′) ∷ (‵ (flft κ q) ⊛ ‵ ftrue) ∷ ‵ Own ∷ []) ∵
@@ -127,28 +128,31 @@ module _ {M : Type 1} (𝓤 : URA M) (H : Heap 𝓤) (A : Atoms 𝓤) (W : Given
       walk : Room u8 (length ys) → ent 𝓤 (onEntry 𝓤 H A f.signature (κ, (κ′, tt)) (q, (q′, tt)) (x, (y, tt)) at) (WpFn 𝓤 H C Λ code.function (s ∷ vptr b′ o′ ∷ []) Post)
       walk room =
           qed W ((‵ (flft κ q) ⊛ ‵ (flft κ′ q′) ⊛ ‵ ftrue) ∷ ‵ (owns (ShrSlice (named 0) κ u8 ∷ MutRef (named 1) κ′ T.the-row ∷ []) (x, (y, tt)) at) ∷ []) ∵ enter ! C Λ code.function (s ∷ vptr b′ o′ ∷ []) _ $
-          alloc1 ! (λ l₀. alloc1 ! (λ l₁. alloc1 ! (λ l₂. alloc1 ! (λ l₃. alloc0 ! $ params1 ! $ pass1 ! (init ! 4 refl (tt, (tt, (record { fits = room .0 }, tt)))) $ pass1 ! (init ! 2 refl (tt, tt)) $ pass0 ! $
-          -- [_3; …; _2; …; _1; …; room for _0; …; the tokens; what file and state own]. The file can be had twice, and one copy goes to the call
-          move ! (9 ∷ []) $ fsplit ! $ use1 W (‵ Own ⊛ ‵ Own) (shr-slice-copy 𝓤 H A W (named 0) κ u8 .twice x (s ∷ [])) $ split ! $
-          move ! (11 ∷ []) $ split ! $ move ! (0 ∷ 2 ∷ []) $ use2 W (raw (Call .pre at-call)) goes $
-          -- [what the call asks; the record's token; what file owns; what state owns; _3; …; _2; …; _1; …; room for _0; …]
-          calls-at ! fm Call known at-call (and-then ! (load ! (from ! (stop !)) (look ! 8 refl)) (no-more !)) (λ w.
-          use1 W (later (some (λ (r : Started). ((‵ (flft κ q) ⊛ ‵ ftrue) ⊛ ‵ (S.the-row .own r (w ∷ []))) ⊛ raw (ensured 𝓤 H A callee.ended (callee.clauses 𝓤 H A at-mem run) (κ, tt) (x, tt) tt r)))) (id⊢ 𝓤 _) $ await ! tt $ pick ! (λ r.
-          split ! $ move ! (1 ∷ []) $ use1 W (raw (fact 𝓤 (Says ys r))) (told κ x r) $ heard ! (Says ys r) (λ e. split ! $
-          -- [the file's token; what the yield owns; the record's token; what file owns; what state owns; _3; …; _2; …; _1; …; room for _0; …]
-          move ! (1 ∷ []) $ peeks ! S.the-row (Is S.the-row) (shows 𝓤 H A S.the-row) r (w ∷ []) (λ is. land ! (from ! (stop !)) (init ! 5 refl (LL.lawful S.the-type S′.the-laws 𝓤 H A W .typed r _ is .0)) $
-          rewrite ! 5 (λ (u : Val). ‵ (fat fullShare S′.mir l₃ 0 u)) (ap only (LL.tells S.the-type S′.the-laws r _ is)) refl $
-          move ! (4 ∷ []) $ fsplit ! $ fsplit3 ! $ drop ! $ move ! (5 ∷ []) $ split ! $ move ! (2 ∷ 3 ∷ 0 ∷ []) $
+          alloc1 ! (λ l₀. alloc1 ! (λ l₁. alloc1 ! (λ l₂. alloc1 ! (λ l₃. alloc1 ! (λ l₄. alloc0 ! $ params1 ! $ pass1 ! (init ! 6 refl (tt, (tt, (record { fits = room .0 }, tt)))) $ pass1 ! (init ! 4 refl (tt, tt)) $ pass0 ! $
+          -- [_4; …; _3; …; _2; …; _1; …; room for _0; …; the tokens; what file and state own]. The file can be had twice, and one copy goes to the call
+          move ! (11 ∷ []) $ fsplit ! $ use1 W (‵ Own ⊛ ‵ Own) (shr-slice-copy 𝓤 H A W (named 0) κ u8 .twice x (s ∷ [])) $ split ! $
+          move ! (2 ∷ []) $ fsplit ! $ fsplit3 ! $ drop ! $ move ! (15 ∷ []) $ split ! $ move ! (1 ∷ []) $ split ! $ move ! (3 ∷ 4 ∷ 0 ∷ []) $
           opens ! tt T.the-row {h = h} b′ o′ (λ vs. spelt ! T.the-row (Is T.the-row) (shows 𝓤 H A T.the-row) (LL.vals T.the-type T′.the-laws) (LL.tells T.the-type T′.the-laws) fullShare h vs b′ o′ $
-          -- [the record's cell; what a Record owns; the open borrow; obs; auth; true; true; what the yield owns; the file's token; what file owns; _3; …; _2; …; _1; …; room for _0; …]
-          assigns ! (of-opd ! (load ! (from ! (fld ! refl (stop !))) (look-in ! 10 (sub ! 1 refl (whole !))))) (from ! (hop ! (look ! 12 refl) (stop !))) (store-raw ! 0 refl (LL.lawful T.the-type T′.the-laws 𝓤 H A W .typed (r .state) _ (parts r w is .1 .0) .0)) $
-          assigns ! (of-opd ! (load ! (from ! (fld ! refl (stop !))) (look-in ! 10 (sub ! 0 refl (whole !))))) (from ! (stop !)) (init ! 16 refl (tt, record { fits = parts r w is .0 .1 })) $
-          move ! (1 ∷ []) $ drop ! $ owned ! T.the-row (Is T.the-row) (LL.makes T.the-type T′.the-plain 𝓤 H A) (r .state) _ (parts r w is .1 .0) $
-          move ! (1 ∷ 0 ∷ []) $ closes ! tt T.the-row (r .state) (mach (r .state) ∷ []) b′ o′ $
-          -- [obs; the borrow; the record's token; true; true; what the yield owns; the file's token; what file owns; _3; …; _2; …; _1; …; room for _0; …]
-          returns ! (look ! 14 refl) $ forget ! 8 refl $ forget ! 10 refl $ forget ! 12 refl $ forget ! 14 refl $
-          move ! (14 ∷ 15 ∷ []) $ free1 ! $ move ! (12 ∷ 13 ∷ []) $ free1 ! $ move ! (10 ∷ 11 ∷ []) $ free1 ! $ move ! (8 ∷ 9 ∷ []) $ free1 ! $ free0 ! $
-          keep ! (0 ∷ 1 ∷ 2 ∷ 6 ∷ 7 ∷ []) $ by ! (exits r (parts r w is .0) e))))))))))
+          move ! (1 ∷ []) $ peeks ! T.the-row (Is T.the-row) (shows 𝓤 H A T.the-row) h (mach h ∷ []) (λ was. move ! (1 ∷ 0 ∷ []) $
+          -- [the record's cell; what a Record owns; the open borrow; obs; auth; true; the file's token; true; what file owns, twice; _4; …; _3; …; _2; …; _1; …; room for _0; …]
+          assigns ! (of-opd ! (load ! (from ! (hop ! (look ! 14 refl) (stop !))) (look-raw ! 0 refl))) (from ! (stop !)) (init ! 10 refl (LL.lawful T.the-type T′.the-laws 𝓤 H A W .typed h _ was .0)) $
+          move ! (6 ∷ 8 ∷ []) $ use2 W (raw (Call .pre at-call)) (goes was) $
+          -- [what the call asks; the record's cell; what a Record owns; the open borrow; obs; auth; true; true; what file owns; _4; …; _3; …; _2; …; _1; …; room for _0; …]
+          calls-at ! fm Call known at-call (and-then ! (load ! (from ! (stop !)) (look ! 15 refl)) (and-then ! (load ! (from ! (stop !)) (look ! 9 refl)) (no-more !))) (λ w.
+          use1 W (later (some (λ (r : Started). ((‵ (flft κ q) ⊛ ‵ ftrue) ⊛ ‵ (S.the-row .own r (w ∷ []))) ⊛ raw (ensured 𝓤 H A callee.ended (callee.clauses 𝓤 H A at-mem run) (κ, tt) (x, (h, tt)) tt r)))) (id⊢ 𝓤 _) $ await ! tt $ pick ! (λ r.
+          split ! $ move ! (1 ∷ []) $ use1 W (raw (fact 𝓤 (Says h ys r))) (told κ x h r) $ heard ! (Says h ys r) (λ e. split ! $
+          -- [the file's token; what the yield owns; the record's cell; what a Record owns; the open borrow; obs; auth; true; true; what file owns; _4; …; _3; …; _2; …; _1; …; room for _0; …]
+          move ! (1 ∷ []) $ peeks ! S.the-row (Is S.the-row) (shows 𝓤 H A S.the-row) r (w ∷ []) (λ is. land ! (from ! (stop !)) (init ! 12 refl (LL.lawful S.the-type S′.the-laws 𝓤 H A W .typed r _ is .0)) $
+          rewrite ! 12 (λ (u : Val). ‵ (fat fullShare S′.mir l₃ 0 u)) (ap only (LL.tells S.the-type S′.the-laws r _ is)) refl $
+          -- the yield's parts go to the record's cell and to the answer
+          assigns ! (of-opd ! (load ! (from ! (fld ! refl (stop !))) (look-in ! 12 (sub ! 1 refl (whole !))))) (from ! (hop ! (look ! 14 refl) (stop !))) (store-raw ! 2 refl (LL.lawful T.the-type T′.the-laws 𝓤 H A W .typed (r .state) _ (parts r w is .1 .0) .0)) $
+          assigns ! (of-opd ! (load ! (from ! (fld ! refl (stop !))) (look-in ! 12 (sub ! 0 refl (whole !))))) (from ! (stop !)) (init ! 18 refl (tt, record { fits = parts r w is .0 .1 })) $
+          move ! (3 ∷ []) $ drop ! $ owned ! T.the-row (Is T.the-row) (LL.makes T.the-type T′.the-plain 𝓤 H A) (r .state) _ (parts r w is .1 .0) $
+          move ! (3 ∷ 0 ∷ 4 ∷ 5 ∷ 6 ∷ []) $ closes ! tt T.the-row (r .state) (mach (r .state) ∷ []) b′ o′ $
+          -- [obs; the borrow; the record's token; what the yield owns; the file's token; true; true; what file owns; _4; …; _3; …; _2; …; _1; …; room for _0; …]
+          returns ! (look ! 16 refl) $ forget ! 8 refl $ forget ! 10 refl $ forget ! 12 refl $ forget ! 14 refl $ forget ! 16 refl $
+          move ! (16 ∷ 17 ∷ []) $ free1 ! $ move ! (14 ∷ 15 ∷ []) $ free1 ! $ move ! (12 ∷ 13 ∷ []) $ free1 ! $ move ! (10 ∷ 11 ∷ []) $ free1 ! $ move ! (8 ∷ 9 ∷ []) $ free1 ! $ free0 ! $
+          keep ! (0 ∷ 1 ∷ 2 ∷ 4 ∷ 7 ∷ []) $ by ! (exits r (parts r w is .0) e))))))))))))
 
 module _ {M : Type 1} (𝓤 : URA M) (H : Heap 𝓤) (A : Atoms 𝓤) (W : Given 𝓤 H A) (at-mem : Memory → SProp 𝓤) (run : Routine → Fun 𝓤) where
   goes-all : AllGo 𝓤 H A W 2 (f.signature .params) (f.ended .kept) stayed

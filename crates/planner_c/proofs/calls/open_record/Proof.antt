@@ -10,11 +10,11 @@ open-requires c κs = search needs
 number-of-requires : tie.Need-number-of-requires
 number-of-requires c κs = search needs
 
-record-of-requires : tie.Need-record-of-requires
-record-of-requires c κs = search needs
+record-opened-requires : tie.Need-record-opened-requires
+record-opened-requires c κs = search needs
 
 returns : tie.Need-returns
-returns c = record-opened _ _ _ _ (c .before .before .before .open .ensures) (c .before .number-of .ensures) (c .record-of .ensures)
+returns c = record-opened _ _ _ _ _ (c .before .before .before .open .ensures) (c .before .number-of .ensures) (c .record-opened .ensures)
 
 pub open-record-spec : {M : Type 1} → statement M
-open-record-spec = tie.close (tie.spec open-requires number-of-requires record-of-requires returns)
+open-record-spec = tie.close (tie.spec open-requires number-of-requires record-opened-requires returns)
