@@ -4,7 +4,7 @@ use crate::contender::State;
 use std::time::{Duration, Instant};
 
 /// Measurements of each; the median counts.
-const ROUNDS: usize = 7;
+const ROUNDS: usize = 9;
 /// One measurement takes at least about so long.
 const LEAST: Duration = Duration::from_millis(200);
 

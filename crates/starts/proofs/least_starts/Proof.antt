@@ -21,7 +21,7 @@ rounds-requires : tie.Need-rounds-requires
 unfolding emptyTable
 rounds-requires c κs =
     let pre = c .before .before .before .before .before .pre in (
-      (omega (arith, fours-high _ (pre .0 .0)), pre .0 .0),
+      (omega (arith, fours-high _ (pre .0 .0)), omega (arith, pre .0 .0)),
       (table-small _ _ _ _ _ _ _ _ _ (c .before .before .before .fill-delays .ensures) (c .before .fill-turns .ensures) (pre .1 .0), zeros-small _ 24),
     )
 
