@@ -1,7 +1,7 @@
 -- A record loses nothing: the record of a search stands for that search. So calls on records do what the planner's calls do on searches, one after the other.
 use mathlib.Core.Path.{_≡_, refl, ap, _∙_}
 use mathlib.Core.Bool.{Bool, true, false, not}
-use mathlib.Core.List.{List}
+use mathlib.Core.List.{List, [], _∷_}
 use Prim.Native.Nat.{ℕ}
 use lib.Dec.{eqb}
 use lib.ListN.{length}
@@ -9,14 +9,17 @@ use Rattle.model.specs.declared.Best.{Best}
 use Rattle.model.specs.declared.Best.the-variants.{Nothing, Latency}
 use Rattle.model.specs.declared.Search.{Search}
 use Rattle.model.specs.declared.Ran.{Ran}
+use Rattle.model.specs.declared.Opening.the-variants.{Accepted}
 use Rattle.model.specs.Common.{if_then_else_, Outcome, refuse, accept}
+use Rattle.model.specs.Open.{opened}
+use Rattle.model.specs.Calls.{Call, call, after}
 use Rattle.model.specs.Search.{nodes}
 use Rattle.model.specs.Run.{runRefusal, answerOf, startsAfter, answered, ranAs as ranBy, ran}
 use Rattle.planner_c.specs.declared.records.Record.{Record}
 use Rattle.planner_c.specs.declared.replies.Reply.{Reply}
 use Rattle.planner_c.specs.Records.{bestIn, searchIn, foundOf, latencyOf, flagOf, recordOf}
 use Rattle.planner_c.specs.Replies.{replyOf}
-use Rattle.planner_c.specs.Calls.{recordAfter, ranAs, ranRecord}
+use Rattle.planner_c.specs.Calls.{recordOpened, openedAs, openedRecord, recordAfter, ranAs, ranRecord, afterRuns}
 
 best-back : (b : Best) → bestIn (foundOf b) (latencyOf b) ≡ b
 unfolding bestIn if_then_else_
@@ -56,3 +59,15 @@ pub run-same : (s : Search) (budget : ℕ) (list : List ℕ) → ranRecord (reco
 unfolding ranRecord ran
 run-same s budget list =
     ap (λ (t : Search). ranAs (recordOf s) (ran t budget list)) (search-back s) ∙ by-cases (runRefusal s budget (length list)) s budget list
+
+-- a file that is opened yields the record of its fresh search
+pub opened-same : (s : Record) (file : List ℕ) → opened file .answer ≡ Accepted → openedRecord s file .1 ≡ recordOf (opened file .search)
+unfolding openedRecord openedAs recordOpened
+opened-same s file e = rw e
+
+-- a list of runs on the record of a search goes the way of the planner's list of runs on the search
+pub runs-same : (s : Search) (cs : List Call) → afterRuns (recordOf s) cs ≡ recordOf (after s cs)
+unfolding afterRuns after call
+runs-same s [] = refl
+runs-same s (c ∷ cs) =
+    ap (λ (x : (Reply × Record) × List ℕ). afterRuns (x .0 .1) cs) (run-same s (c .budget) (c .starts)) ∙ runs-same (ran s (c .budget) (c .starts) .0 .search) cs

@@ -1,6 +1,6 @@
 -- What each call yields on C's records: the planner's own `opened`, `ran` and `written`, on the search that the record stands for.
 use Prim.Native.Nat.{ℕ}
-use mathlib.Core.List.{List}
+use mathlib.Core.List.{List, [], _∷_}
 use Rattle.model.specs.declared.Answer.{Answer}
 use Rattle.model.specs.declared.Answer.the-variants.{Spent, Plan, NoPlan, Refused}
 use Rattle.model.specs.declared.Opening.{Opening}
@@ -13,6 +13,7 @@ use Rattle.model.specs.Common.{Outcome}
 use Rattle.model.specs.Open.{opened}
 use Rattle.model.specs.Run.{ran}
 use Rattle.model.specs.Text.{written}
+use Rattle.model.specs.Calls.{Call}
 use Rattle.planner_c.specs.declared.records.Record.{Record}
 use Rattle.planner_c.specs.declared.replies.Reply.{Reply}
 use Rattle.planner_c.specs.declared.replies.Text.{Text}
@@ -44,6 +45,11 @@ ranAs s (r, list) = ((replyOf (r .answer), recordAfter s (r .answer) (r .search)
 
 unfoldable pub ranRecord : Record → ℕ → List ℕ → (Reply × Record) × List ℕ
 ranRecord s budget list = ranAs s (ran (searchIn s) budget list)
+
+-- the record after a list of run calls, each getting the record that the one before left
+unfoldable pub afterRuns : Record → List Call → Record
+afterRuns s [] = s
+afterRuns s (c ∷ cs) = afterRuns (ranRecord s (c .budget) (c .starts) .0 .1) cs
 
 -- writing: the length or the refusal, and the buffer
 unfoldable pub textAs : Written × List ℕ → Text × List ℕ
