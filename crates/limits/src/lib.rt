@@ -1,6 +1,7 @@
 // The limits of a batch's numbers, as tests: n, m and p (4), a delay's jobs (5) and its weight (6).
 use model::Delay;
 ghost use mathlib.Core.Path.{_≡_};
+ghost use mathlib.Core.Bool.{_&&_};
 ghost use Rattle.model.specs.Open.{countsOk, ticksOk, jobsOk, weightOk};
 
 // n is 1 to 24, and m at most 128.
@@ -44,4 +45,11 @@ pub fn weight_ok(q: Delay) -> bool
 {
     let w = q.weight;
     -1000 <= w && w <= 1000
+}
+
+// The delay's jobs and its weight are within their limits.
+pub fn delay_ok(n: u8, q: Delay) -> bool
+    ensures { λ r. ⌜ r ≡ (jobsOk n q && weightOk q) ⌝ }
+{
+    jobs_ok(n, q) && weight_ok(q)
 }

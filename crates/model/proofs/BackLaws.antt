@@ -1,7 +1,7 @@
 -- Going back: the turns after the last one on side 0 are dropped, and that one is set to side 1. What follows from it for the nodes
 -- that a path leaves open, which is why a search ends and why it misses no plan.
 use Prim.Native.Nat.{ℕ, zero, suc, _+_, _-_, _^_, _≤_, _<_}
-use mathlib.Core.Path.{_≡_, refl, ap, sym, _∙_}
+use mathlib.Core.Path.{_≡_, refl, ap}
 use mathlib.Core.Logic.{_⊎_, inl, inr}
 use mathlib.Core.Bool.{Bool, true, false}
 use mathlib.Core.Option.{Option, none, some}

@@ -1,6 +1,6 @@
 -- Tests as equations: what a test that passes or fails gives, tests joined by &&, and a test as the code asks it.
 use Prim.Native.Nat.{ℕ}
-use mathlib.Core.Path.{_≡_, refl, sym, _∙_}
+use mathlib.Core.Path.{_≡_, refl, sym, _∙_, ap}
 use mathlib.Core.Bool.{Bool, true, false, not, _&&_}
 use native.Mathlib.Omega.{arith}
 use lib.Dec.{T}
@@ -35,6 +35,14 @@ decide false h = refl
 pub and-false : (a : Bool) → (a && false) ≡ false
 and-false true = refl
 and-false false = refl
+
+-- tests joined by && as the code joins them: the first passes, and the answer is the second's
+pub and-then : (x a b : Bool) → x ≡ a → x ≡ true → b ≡ (a && b)
+and-then x a b p q = ap (λ (z : Bool). z && b) (sym q ∙ p)
+
+-- or the first fails, and so does the whole
+pub and-else : (x a b : Bool) → x ≡ a → x ≡ false → x ≡ (a && b)
+and-else x a b p q = q ∙ ap (λ (z : Bool). z && b) (sym q ∙ p)
 
 -- a test t that the code has as b, and asks as !b: it passes, or it fails
 pub passes : {b t : Bool} → b ≡ t → not b ≡ false → t ≡ true

@@ -13,18 +13,15 @@ use Rattle.model.specs.declared.Batch.{Batch}
 use Rattle.model.specs.declared.Best.{Best}
 use Rattle.model.specs.declared.Best.the-variants.{Nothing, Latency}
 use Rattle.model.specs.declared.Search.{Search}
-use Rattle.model.specs.declared.Opened.{Opened}
 use Rattle.model.specs.declared.Answer.{Answer}
-use Rattle.model.specs.declared.Answer.the-variants.{Spent, Plan, NoPlan, Refused}
-use Rattle.model.specs.declared.Ran.{Ran}
 use Rattle.model.specs.Common.{Outcome, refuse, accept, _>>=_, require}
 use Rattle.model.specs.Clash.{Clash, clashes}
-use Rattle.model.specs.Search.{freshSearch, node, searchOf, nodesOn, nodes}
-use Rattle.model.specs.Open.{openFile, openedAs, opened, blankSearch}
+use Rattle.model.specs.Search.{node, searchOf, nodesOn, nodes}
+use Rattle.model.specs.Open.{openedAs, opened}
 use Rattle.model.specs.Limits.{mostBudget, mostTotal}
 use Rattle.model.specs.Sound.{sound}
 use Rattle.model.specs.Run.{runRefusal, answerOf, startsAfter, answered, ranAs, ran}
-use Rattle.model.specs.Answers.{Verdict, spent, plan, noPlan, runTold, openTold, writeTold}
+use Rattle.model.specs.Answers.{spent, plan, noPlan, runTold, openTold, writeTold}
 use Rattle.model.specs.Text.{fitting, writtenAs, written}
 use Rattle.model.specs.Demands.{OpeningLeaves, RunLeaves, WritingLeaves, Demand1}
 use Rattle.model.proofs.OutcomeLaws.{refused, refuse-as, accept-eq, require-accepts}

@@ -2,6 +2,7 @@
 pub mod BoolLaws
 pub mod ListLaws
 pub mod SeqLaws
+pub mod AllLaws
 pub mod OutcomeLaws
 pub mod PlusLaws
 pub mod DistanceLaws

@@ -10,7 +10,7 @@ use Rattle.model.specs.declared.Delay.{Delay}
 use Rattle.model.specs.declared.Job.{Job}
 use Rattle.model.specs.declared.Batch.{Batch}
 use Rattle.model.specs.Common.{count}
-use Rattle.model.specs.Limits.{mostTicks, mostJobs, mostDelays}
+use Rattle.model.specs.Limits.{mostTicks}
 
 -- ---- unused places
 

@@ -2,16 +2,14 @@
 use Prim.Native.Nat.{ℕ, _+_, _≤_, _<_, min}
 use mathlib.Core.Path.{_≡_}
 use mathlib.Core.Logic.{_↔_}
-use mathlib.Core.Bool.{Bool, true, false}
-use mathlib.Core.Option.{Option, none, some}
+use mathlib.Core.Bool.{true, false}
+use mathlib.Core.Option.{some}
 use mathlib.Core.List.{List, [], _∷_, _++_}
 use lib.ListN.{length, take, drop}
 use Rattle.model.specs.declared.Batch.{Batch}
-use Rattle.model.specs.declared.Best.{Best}
 use Rattle.model.specs.declared.Search.{Search}
 use Rattle.model.specs.declared.Ran.{Ran}
 use Rattle.model.specs.declared.Opening.{Opening}
-use Rattle.model.specs.declared.Opened.{Opened}
 use Rattle.model.specs.declared.Written.{Written}
 use Rattle.model.specs.Common.{Outcome, refuse, accept}
 use Rattle.model.specs.Plan.{Valid, Shortest, latency}

@@ -1,6 +1,6 @@
 -- Lines: upper-case hexadecimal, two digits a byte, closed by byte 0A. Reading the first line of a file, and writing one.
 use Prim.Native.Nat.{ℕ, _+_, _-_, _*_, _/_, _%_}
-use mathlib.Core.Bool.{Bool, not}
+use mathlib.Core.Bool.{not}
 use mathlib.Core.List.{List, [], _∷_, _++_}
 use mathlib.Core.Option.{Option, none, some}
 use lib.ListN.{length, drop}

@@ -12,8 +12,6 @@ use Rattle.model.specs.declared.Batch.{Batch}
 use Rattle.model.specs.declared.Search.{Search}
 use Rattle.model.specs.declared.Answer.{Answer}
 use Rattle.model.specs.declared.Answer.the-variants.{Spent, Plan, NoPlan}
-use Rattle.model.specs.declared.Ran.{Ran}
-use Rattle.model.specs.declared.Opened.{Opened}
 use Rattle.model.specs.Common.{if_then_else_, Outcome, refuse, accept, _>>=_}
 use Rattle.model.specs.Search.{nodes, freshSearch}
 use Rattle.model.specs.Open.{opened}

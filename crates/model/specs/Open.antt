@@ -1,8 +1,7 @@
 -- Opening a batch file: line by line, in a line 7 first and then 1 to 6 in turn; then 8, 9, 10.
 use Prim.Native.Nat.{ℕ, zero, suc, _+_, _-_, _*_}
-use mathlib.Core.Bool.{Bool, true, false, _&&_, not}
+use mathlib.Core.Bool.{Bool, _&&_, not}
 use mathlib.Core.List.{List, [], _∷_}
-use mathlib.Core.Option.{Option, none, some}
 use lib.ListN.{length, getD, drop}
 use lib.IntN.{ℤ, pos, negsuc}
 use lib.Signed.{leZ}
@@ -11,7 +10,6 @@ use Rattle.model.specs.declared.Delay.{Delay}
 use Rattle.model.specs.declared.Job.{Job}
 use Rattle.model.specs.declared.Batch.{Batch}
 use Rattle.model.specs.declared.Search.{Search}
-use Rattle.model.specs.declared.Opening.{Opening}
 use Rattle.model.specs.declared.Opening.the-variants.{Accepted, Refused}
 use Rattle.model.specs.declared.Opened.{Opened}
 use Rattle.model.specs.Common.{if_then_else_, between, pad, isEmpty, isSome, Outcome, refuse, accept, _>>=_, require, given}

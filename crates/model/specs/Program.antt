@@ -3,7 +3,6 @@ use Prim.Native.Nat.{ℕ, zero, suc}
 use mathlib.Core.List.{List}
 use lib.ListN.{take, replicate}
 use Rattle.model.specs.declared.Search.{Search}
-use Rattle.model.specs.declared.Ran.{Ran}
 use Rattle.model.specs.Common.{Outcome, refuse, accept, _>>=_}
 use Rattle.model.specs.Limits.{mostJobs, mostBudget}
 use Rattle.model.specs.Search.{freshSearch}

@@ -1,6 +1,5 @@
 -- Writing: the plan text, the batch text, and a text into a buffer. Refusals 12, 15, 16.
 use Prim.Native.Nat.{ℕ}
-use mathlib.Core.Bool.{Bool}
 use mathlib.Core.List.{List, [], _∷_, _++_}
 use lib.ListN.{length, drop}
 use lib.Dec.{leb}

@@ -14,7 +14,6 @@ use Rattle.model.specs.Batch.{blankJob, blankDelay}
 use Rattle.model.specs.Format.{batchOf}
 use Rattle.model.specs.Open.{job, delay, readAll}
 use Rattle.model.proofs.OutcomeLaws.{accepts-bind, accepts-require}
-use Rattle.opening.specs.declared.Next.{Next}
 use Rattle.opening.specs.declared.Next.the-variants.{At, Refused}
 use Rattle.opening.specs.declared.jobs.JobsRead.{JobsRead}
 use Rattle.opening.specs.declared.delays.DelaysRead.{DelaysRead}

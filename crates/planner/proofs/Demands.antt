@@ -1,27 +1,25 @@
 -- Demands 1, 2 and 3 of the public calls: what the contracts say of the results makes them the definitions' results, of which model proves the demands.
-use Prim.Native.Nat.{ℕ, _≤_}
+use Prim.Native.Nat.{ℕ}
 use mathlib.Core.Path.{_≡_, refl, ap, sym, _∙_, subst}
 use mathlib.Core.Logic.{_↔_}
-use mathlib.Core.Bool.{true, false}
+use mathlib.Core.Bool.{true}
 use mathlib.Core.Option.{some}
 use mathlib.Core.List.{List, [], _∷_, _++_}
-use lib.ListN.{length, drop}
 use Rattle.model.specs.declared.Batch.{Batch}
 use Rattle.model.specs.declared.Search.{Search}
 use Rattle.model.specs.declared.Opening.the-variants.{Accepted}
 use Rattle.model.specs.declared.Opened.{Opened}
 use Rattle.model.specs.declared.Ran.{Ran}
 use Rattle.model.specs.declared.Written.{Written}
-use Rattle.model.specs.declared.Written.the-variants.{Bytes}
 use Rattle.model.specs.Common.{Outcome, refuse, accept}
 use Rattle.model.specs.Search.{searchOf, freshSearch}
 use Rattle.model.specs.Format.{BatchFile}
 use Rattle.model.specs.Open.{openFile, openedAs, opened, blankSearch}
 use Rattle.model.specs.Run.{ran}
 use Rattle.model.specs.Text.{planLines, planText, batchText, written}
-use Rattle.model.specs.Answers.{Verdict, plan, runTold, openTold, bestTold}
-use Rattle.model.specs.Calls.{Call, call, after, refuses, granted}
-use Rattle.model.specs.Demands.{RunLeaves, WritingLeaves, PlanWith, Reached, AnswerFor, demand3}
+use Rattle.model.specs.Answers.{plan, runTold, openTold, bestTold}
+use Rattle.model.specs.Calls.{Call, call, after, granted}
+use Rattle.model.specs.Demands.{RunLeaves, WritingLeaves, PlanWith, Reached, demand3}
 use Rattle.model.proofs.OutcomeLaws.{refused}
 use Rattle.model.proofs.LeaveLaws.{demand-1 as model-1}
 use Rattle.model.proofs.OpenLaws.{demand-2 as model-2, demand-3 as model-3}

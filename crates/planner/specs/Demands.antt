@@ -13,13 +13,13 @@ use Rattle.model.specs.declared.Opened.{Opened}
 use Rattle.model.specs.declared.Ran.{Ran}
 use Rattle.model.specs.declared.Written.{Written}
 use Rattle.model.specs.declared.Written.the-variants.{Bytes}
-use Rattle.model.specs.Common.{Outcome, refuse, accept}
+use Rattle.model.specs.Common.{refuse, accept}
 use Rattle.model.specs.Search.{freshSearch, Ends, nodeLimit}
 use Rattle.model.specs.Format.{BatchFile}
 use Rattle.model.specs.Open.{openFile, opened, blankSearch}
 use Rattle.model.specs.Run.{ran}
 use Rattle.model.specs.Text.{planLines, planText, batchText, written}
-use Rattle.model.specs.Answers.{Verdict, plan, runTold, openTold, bestTold}
+use Rattle.model.specs.Answers.{plan, runTold, openTold, bestTold}
 use Rattle.model.specs.Calls.{Call, refuses, granted}
 use Rattle.model.specs.Demands.{RunLeaves, WritingLeaves, PlanWith, Reached, AnswerFor}
 

@@ -1,25 +1,21 @@
 -- From a sound record to the arrays that a run works on, and back to the record that its nodes reach.
-use Prim.Native.Nat.{ℕ, _≤_}
-use mathlib.Core.Path.{_≡_, refl, ap, sym, _∙_}
+use Prim.Native.Nat.{ℕ}
+use mathlib.Core.Path.{_≡_, ap, sym, _∙_}
 use mathlib.Core.Bool.{Bool, true, false}
 use mathlib.Core.List.{List}
 use lib.ListN.{length}
 use Rattle.model.specs.declared.Batch.{Batch}
 use Rattle.model.specs.declared.Turn.{Turn}
 use Rattle.model.specs.declared.Search.{Search}
-use Rattle.model.specs.declared.Tally.{Tally}
 use Rattle.model.specs.Common.{pad}
 use Rattle.model.specs.Clash.{clashes}
 use Rattle.model.specs.Search.{Place, empty, placeOf, searchOf, nodesOn, nodes}
 use Rattle.model.specs.Sound.{sound}
 use Rattle.soundness.specs.declared.Examined.{Examined}
 use Rattle.soundness.specs.Examined.{Prepared}
-use Rattle.soundness.specs.Path.{Coded}
 use Rattle.search.specs.declared.node.Walk.{Walk}
-use Rattle.search.specs.declared.node.Sizes.{Sizes}
-use Rattle.search.specs.declared.nodes.Walked.{Walked}
-use Rattle.search.specs.Walk.{turnsIn, Path, placeAt}
-use Rattle.search.specs.Kit.{Works, Walks}
+use Rattle.search.specs.Walk.{turnsIn, placeAt}
+use Rattle.search.specs.Kit.{Works}
 use Rattle.search.proofs.RecordLaws.{record-back, path-held, place-held, place-is-sound}
 
 -- the record of a place, once its path is put together

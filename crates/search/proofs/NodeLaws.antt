@@ -1,9 +1,8 @@
 -- One node over the arrays is one node of the definitions.
-use Prim.Native.Nat.{ℕ, zero, suc, _+_, _*_, _≤_, _<_}
+use Prim.Native.Nat.{ℕ, zero, suc}
 use mathlib.Core.Path.{_≡_, refl, ap, sym, _∙_}
 use mathlib.Core.Bool.{Bool, true, false}
-use mathlib.Core.List.{List, [], _∷_, _++_}
-use mathlib.Core.Option.{Option, none, some}
+use mathlib.Core.List.{List, []}
 use native.Mathlib.Omega.{arith}
 use lib.Dec.{eqb, leb}
 use borrow.Author.Tests.{ne-eqb}
@@ -11,9 +10,8 @@ use Rattle.model.specs.declared.Turn.{Turn}
 use Rattle.model.specs.declared.Best.{Best}
 use Rattle.model.specs.declared.Best.the-variants.{Nothing, Latency}
 use Rattle.model.specs.Common.{count}
-use Rattle.model.specs.Search.{Incumbent, Place, turnedBack, backTo, back, prunes}
-use Rattle.search.specs.declared.node.Walk.{Walk}
-use Rattle.search.specs.Walk.{Path, turnsIn, backAs, incumbent, placeAt}
+use Rattle.model.specs.Search.{turnedBack, backTo, back, prunes}
+use Rattle.search.specs.Walk.{turnsIn, backAs, incumbent, placeAt}
 
 empty-turns : (turns : List ℕ) → turnsIn turns 0 ≡ []
 unfolding turnsIn count

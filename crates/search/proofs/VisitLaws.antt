@@ -1,5 +1,5 @@
 -- The cases of a node: what least starts, latency and the first met clash say together is the definitions' next place.
-use Prim.Native.Nat.{ℕ, zero, suc, _+_, _-_, _*_, _/_, _%_, _≤_, _<_}
+use Prim.Native.Nat.{ℕ, _+_, _-_, _*_, _/_, _%_, _≤_, _<_}
 use mathlib.Core.Path.{_≡_, refl, ap, sym, _∙_, subst}
 use mathlib.Core.Bool.{Bool, true, false}
 use mathlib.Core.List.{List, [], _∷_, _++_}
@@ -10,13 +10,12 @@ use lib.ListN.{length, getD, set}
 use lib.Seq.{getD-set-same}
 use Rattle.model.specs.declared.Batch.{Batch}
 use Rattle.model.specs.declared.Turn.{Turn}
-use Rattle.model.specs.declared.Best.{Best}
 use Rattle.model.specs.declared.Best.the-variants.{Nothing, Latency}
 use Rattle.model.specs.Common.{if_then_else_, pad}
 use Rattle.model.specs.Batch.{ticks}
 use Rattle.model.specs.Plan.{latency}
 use Rattle.model.specs.Clash.{clashes}
-use Rattle.model.specs.Search.{Place, Incumbent, startsAt, firstMet, back, prunes, becomeBest, branch, visit, next}
+use Rattle.model.specs.Search.{Place, startsAt, firstMet, back, prunes, becomeBest, branch, visit, next}
 use Rattle.model.proofs.BoolLaws.{apart}
 use Rattle.model.proofs.SeqLaws.{pad-at}
 use Rattle.model.proofs.GoodLaws.{good-room}
@@ -37,9 +36,9 @@ use Rattle.starts.proofs.LeastLaws.{least-bound}
 use Rattle.starts.proofs.LatencyLaws.{ticks-fit, latency-padded}
 use Rattle.search.specs.declared.node.Walk.{Walk}
 use Rattle.search.specs.declared.node.Sizes.{Sizes}
-use Rattle.search.specs.Walk.{turnOf, turnsIn, Path, incumbent, placeAt}
+use Rattle.search.specs.Walk.{turnOf, turnsIn, incumbent, placeAt}
 use Rattle.search.specs.Kit.{Works}
-use Rattle.search.proofs.BackLaws.{turns-more, turns-set, path-set}
+use Rattle.search.proofs.BackLaws.{turns-more, turns-set}
 use Rattle.search.proofs.PathLaws.{turns-length}
 use Rattle.search.proofs.WorksLaws.{passes, good, counts, tables, few, list, least-asks, least-tells}
 

@@ -1,16 +1,14 @@
 -- The arrays that a run works on stand for a batch and for a place of its search.
 use mathlib.Core.Path.{_≡_}
-use mathlib.Core.Bool.{true, false}
+use mathlib.Core.Bool.{true}
 use mathlib.Core.List.{List}
 use Prim.Native.Nat.{ℕ}
 use Rattle.model.specs.declared.Batch.{Batch}
 use Rattle.model.specs.declared.Tally.{Tally}
 use Rattle.model.specs.Clash.{clashes}
 use Rattle.model.specs.Search.{next, searchOf, nodesOn}
-use Rattle.model.specs.Sound.{soundBatch, sound}
-use Rattle.clashes.specs.declared.Clashes.{Clashes}
+use Rattle.model.specs.Sound.{sound}
 use Rattle.clashes.specs.List.{listOf}
-use Rattle.starts.specs.declared.delays.Delays.{Delays}
 use Rattle.starts.specs.Delays.{delaysRead, ticksRead}
 use Rattle.search.specs.declared.node.Walk.{Walk}
 use Rattle.search.specs.declared.node.Sizes.{Sizes}

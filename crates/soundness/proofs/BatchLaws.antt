@@ -1,50 +1,37 @@
 -- A batch that passes the tests of its limits: what they give, and so what the functions that read the batch require.
 use Prim.Native.Nat.{_≤_}
 use mathlib.Core.Path.{_≡_}
-use mathlib.Core.Bool.{Bool, true, false, _&&_, not}
+use mathlib.Core.Bool.{Bool, true, false, not}
 use Rattle.model.specs.declared.Batch.{Batch}
-use Rattle.model.specs.Common.{all, count}
-use Rattle.model.specs.Batch.{ticks, delaysOf}
-use Rattle.model.specs.Open.{countsOk, ticksOk, jobsOk, weightOk}
+use Rattle.model.specs.Common.{all}
+use Rattle.model.specs.Batch.{delaysOf}
+use Rattle.model.specs.Open.{countsOk, jobsOk, weightOk}
 use Rattle.model.proofs.BoolLaws.{both, passes}
 use Rattle.clashes.specs.List.{Tabled}
 use Rattle.clashes.proofs.LimitLaws.{tabled}
-use Rattle.starts.specs.Delays.{Readable, DelaysSound}
-use Rattle.starts.proofs.SoundLaws.{readable}
-use Rattle.soundness.specs.Limits.{ticksPass, delaysPass, limitsPass}
+use Rattle.starts.specs.declared.delays.Reading.{Reading}
+use Rattle.starts.specs.Delays.{DelaysSound, delaysPass, ReadsDelays}
+use Rattle.soundness.specs.Limits.{ticksPass, countsPass}
 use Rattle.soundness.proofs.LimitLaws.{few-jobs, some-jobs, few-delays}
 
--- what the tests give, one by one
-pub record Limits (b : Batch) : Type 0 where
-  pub counts : countsOk (b .n) (b .m) ≡ true
-  pub ticks-each : all (λ i. ticksOk (ticks b i)) (count 0 (b .n)) ≡ true
-  pub jobs-each : all (jobsOk (b .n)) (delaysOf b) ≡ true
-  pub weights-each : all weightOk (delaysOf b) ≡ true
+module _ (b : Batch) (x : Bool) (p : x ≡ countsPass b) (e : not x ≡ false) where
+  counts : (countsOk (b .n) (b .m) ≡ true) × (ticksPass b ≡ true)
+  unfolding countsPass
+  counts = both (countsOk (b .n) (b .m)) (ticksPass b) (passes p e)
 
-module _ (b : Batch) (x : Bool) (p : x ≡ limitsPass b) (e : not x ≡ false) where
-  limits : Limits b
-  unfolding limitsPass ticksPass delaysPass
-  limits =
-      let f = both (countsOk (b .n) (b .m) && ticksPass b) (delaysPass b) (passes p e) in
-      let g = both (countsOk (b .n) (b .m)) (ticksPass b) (f .0) in
-      let h = both (all (jobsOk (b .n)) (delaysOf b)) (all weightOk (delaysOf b)) (f .1) in
-      record { counts = g .0; ticks-each = g .1; jobs-each = h .0; weights-each = h .1 }
+  pub counts-jobs : b .n ≤ 24
+  counts-jobs = few-jobs (b .n) (b .m) (counts .0)
 
-  pub limits-jobs : b .n ≤ 24
-  limits-jobs = few-jobs (b .n) (b .m) (limits .counts)
+  pub counts-delays : b .m ≤ 128
+  counts-delays = few-delays (b .n) (b .m) (counts .0)
 
-  pub limits-tabled : Tabled b
-  limits-tabled = tabled b (limits .counts) (limits .ticks-each)
+  pub counts-tabled : Tabled b
+  unfolding ticksPass
+  counts-tabled = tabled b (counts .0) (counts .1)
 
-  pub limits-readable : Readable b
-  limits-readable = readable b (few-delays (b .n) (b .m) (limits .counts)) (limits .weights-each)
-
-  pub limits-delays : DelaysSound b
-  limits-delays =
-      record {
-        some = some-jobs (b .n) (b .m) (limits .counts);
-        most = limits-jobs;
-        few = few-delays (b .n) (b .m) (limits .counts);
-        jobs = limits .jobs-each;
-        weights = limits .weights-each;
-      }
+  -- the delays pass too
+  pub passed-delays : (r : Reading) → ReadsDelays b r → not (r .passed) ≡ false → DelaysSound b
+  unfolding delaysPass
+  passed-delays r h f =
+      let each = both (all (jobsOk (b .n)) (delaysOf b)) (all weightOk (delaysOf b)) (passes (h .told) f) in
+      record { some = some-jobs (b .n) (b .m) (counts .0); most = counts-jobs; few = counts-delays; jobs = each .0; weights = each .1 }

@@ -11,7 +11,7 @@ use Rattle.model.specs.declared.Best.the-variants.{Nothing, Latency}
 use Rattle.model.specs.Plan.{start}
 use Rattle.model.specs.Sound.{soundBest}
 use Rattle.soundness.specs.Limits.{startsPass}
-use Rattle.soundness.proofs.AllLaws.{allFrom, all-start}
+use Rattle.model.proofs.AllLaws.{allFrom, all-start}
 
 -- ---- starts
 

@@ -1,14 +1,6 @@
--- Tests joined by &&, as the code joins them: the first test decides, or the second does.
-use mathlib.Core.Path.{_≡_, refl, sym, _∙_, ap}
-use mathlib.Core.Bool.{Bool, true, false, not, _&&_, _||_}
-
--- the first test passes, and the answer is the second's
-pub and-then : (x a b : Bool) → x ≡ a → x ≡ true → b ≡ (a && b)
-and-then x a b p q = ap (λ (z : Bool). z && b) (sym q ∙ p)
-
--- the first test fails, and so does the whole
-pub and-else : (x a b : Bool) → x ≡ a → x ≡ false → x ≡ (a && b)
-and-else x a b p q = q ∙ ap (λ (z : Bool). z && b) (sym q ∙ p)
+-- Tests joined by ||, and a test asked twice over.
+use mathlib.Core.Path.{_≡_, refl}
+use mathlib.Core.Bool.{Bool, true, false, not, _||_}
 
 pub or-true : (a : Bool) → (a || true) ≡ true
 or-true true = refl

@@ -19,19 +19,19 @@ use Rattle.model.proofs.BoolLaws.{apart, both, and, and-false, passes, fails}
 use Rattle.clashes.specs.declared.Clashes.{Clashes}
 use Rattle.clashes.specs.List.{listOf}
 use Rattle.clashes.proofs.ListedLaws.{list-count}
-use Rattle.starts.specs.declared.delays.Delays.{Delays}
-use Rattle.starts.specs.Delays.{delaysRead, ticksRead}
+use Rattle.starts.specs.declared.delays.Reading.{Reading}
+use Rattle.starts.specs.Delays.{delaysPass, ReadsDelays, ticksRead}
 use Rattle.soundness.specs.declared.path.Route.{Route}
 use Rattle.soundness.specs.declared.Examined.{Examined}
-use Rattle.soundness.specs.Limits.{ticksPass, delaysPass, limitsPass}
+use Rattle.soundness.specs.Limits.{ticksPass, countsPass}
 use Rattle.soundness.specs.Path.{Reads}
 use Rattle.soundness.specs.Examined.{stateSound, Examines}
 use Rattle.soundness.proofs.StateLaws.{path-read}
 
 -- ---- soundness in the code's order
 
-batch-parts : (b : Batch) → soundBatch b ≡ ((limitsPass b && fewClashes b) && delaysMet b)
-unfolding soundBatch limitsPass ticksPass delaysPass
+batch-parts : (b : Batch) → soundBatch b ≡ (((countsPass b && delaysPass b) && fewClashes b) && delaysMet b)
+unfolding soundBatch countsPass ticksPass delaysPass
 batch-parts b = go (countsOk (b .n) (b .m) && all (λ i. ticksOk (ticks b i)) (count 0 (b .n)))
   where
     go : (p : Bool) → ((((p && all (jobsOk (b .n)) (delaysOf b)) && all weightOk (delaysOf b)) && fewClashes b) && delaysMet b)
@@ -39,7 +39,7 @@ batch-parts b = go (countsOk (b .n) (b .m) && all (λ i. ticksOk (ticks b i)) (c
     go true = refl
     go false = refl
 
-sound-parts : (s : Search) → sound s ≡ (((limitsPass (s .batch) && fewClashes (s .batch)) && delaysMet (s .batch)) && stateSound s)
+sound-parts : (s : Search) → sound s ≡ ((((countsPass (s .batch) && delaysPass (s .batch)) && fewClashes (s .batch)) && delaysMet (s .batch)) && stateSound s)
 unfolding sound stateSound
 sound-parts s = go (soundBatch (s .batch)) ∙ ap (λ (p : Bool). p && stateSound s) (batch-parts (s .batch))
   where
@@ -51,14 +51,24 @@ sound-parts s = go (soundBatch (s .batch)) ∙ ap (λ (p : Bool). p && stateSoun
 -- ---- a record that is not sound
 
 module _ (s : Search) (r : Examined) (no : r .sound ≡ false) where
+  abbrev limits : Bool
+  limits = countsPass (s .batch) && delaysPass (s .batch)
+
   unsound-told : sound s ≡ false → Examines s r
   unsound-told e = record { told = no ∙ sym e; ready = λ y. apart (sym no ∙ y) }
 
-  pub past-limits : (x : Bool) → x ≡ limitsPass (s .batch) → not x ≡ true → Examines s r
-  past-limits x p e =
+  pub past-counts : (x : Bool) → x ≡ countsPass (s .batch) → not x ≡ true → Examines s r
+  past-counts x p e =
       unsound-told
       (sound-parts s
-      ∙ ap (λ (q : Bool). ((q && fewClashes (s .batch)) && delaysMet (s .batch)) && stateSound s) (fails p e))
+      ∙ ap (λ (q : Bool). (((q && delaysPass (s .batch)) && fewClashes (s .batch)) && delaysMet (s .batch)) && stateSound s) (fails p e))
+
+  pub past-delays : (x : Bool) → x ≡ delaysPass (s .batch) → not x ≡ true → Examines s r
+  past-delays x p e =
+      unsound-told
+      (sound-parts s
+      ∙ ap (λ (q : Bool). (((countsPass (s .batch) && q) && fewClashes (s .batch)) && delaysMet (s .batch)) && stateSound s) (fails p e)
+      ∙ ap (λ (q : Bool). ((q && fewClashes (s .batch)) && delaysMet (s .batch)) && stateSound s) (and-false (countsPass (s .batch))))
 
   pub many-clashes : (l : Clashes) → l ≡ listOf (s .batch) → 1024 < l .count → Examines s r
   unfolding fewClashes
@@ -66,15 +76,15 @@ module _ (s : Search) (r : Examined) (no : r .sound ≡ false) where
       let d : fewClashes (s .batch) ≡ false = lt-leb (length (clashes (s .batch))) 1024 (omega (arith, list-count (s .batch) l e)) in
       unsound-told
       (sound-parts s
-      ∙ ap (λ (q : Bool). ((limitsPass (s .batch) && q) && delaysMet (s .batch)) && stateSound s) d
-      ∙ ap (λ (q : Bool). (q && delaysMet (s .batch)) && stateSound s) (and-false (limitsPass (s .batch))))
+      ∙ ap (λ (q : Bool). ((limits && q) && delaysMet (s .batch)) && stateSound s) d
+      ∙ ap (λ (q : Bool). (q && delaysMet (s .batch)) && stateSound s) (and-false limits))
 
   pub delays-unmet : (x : Bool) → x ≡ delaysMet (s .batch) → not x ≡ true → Examines s r
   delays-unmet x p e =
       unsound-told
       (sound-parts s
-      ∙ ap (λ (q : Bool). ((limitsPass (s .batch) && fewClashes (s .batch)) && q) && stateSound s) (fails p e)
-      ∙ ap (λ (q : Bool). q && stateSound s) (and-false (limitsPass (s .batch) && fewClashes (s .batch))))
+      ∙ ap (λ (q : Bool). ((limits && fewClashes (s .batch)) && q) && stateSound s) (fails p e)
+      ∙ ap (λ (q : Bool). q && stateSound s) (and-false (limits && fewClashes (s .batch))))
 
 -- ---- a record that passes
 
@@ -88,21 +98,21 @@ unfolding stateSound
 state-read s r h e =
     path-read s r h (both (soundPath s) (leb (s .total) 100000000) (both _ (soundBest (s .batch .n) (s .best) (s .starts)) e .0) .0)
 
-module _ (s : Search) (x met y : Bool) (l : Clashes) (r : Route) (d : Delays) (t : List ℕ) where
+module _ (s : Search) (x met y : Bool) (d : Reading) (l : Clashes) (r : Route) (t : List ℕ) where
   -- the batch passes, so the state decides; and the record holds what a run works on
-  pub examined : x ≡ limitsPass (s .batch) → not x ≡ false → l ≡ listOf (s .batch) → l .count ≤ 1024 → met ≡ delaysMet (s .batch) → not met ≡ false
-      → Reads (s .path) (l .count) r → y ≡ stateSound s → d ≡ delaysRead (s .batch) → t ≡ ticksRead (s .batch)
-      → Examines s (record { sound = y; clashes = l; delays = d; ticks = t; turns = r .turns; depth = r .depth })
+  pub examined : x ≡ countsPass (s .batch) → not x ≡ false → ReadsDelays (s .batch) d → not (d .passed) ≡ false → l ≡ listOf (s .batch) → l .count ≤ 1024
+      → met ≡ delaysMet (s .batch) → not met ≡ false → Reads (s .path) (l .count) r → y ≡ stateSound s → t ≡ ticksRead (s .batch)
+      → Examines s (record { sound = y; clashes = l; delays = d .delays; ticks = t; turns = r .turns; depth = r .depth })
   unfolding fewClashes
-  examined p p′ c few m m′ h e f g =
+  examined p p′ q q′ c few m m′ h e g =
       let few′ : fewClashes (s .batch) ≡ true = le-leb (length (clashes (s .batch))) 1024 (omega (arith, list-count (s .batch) l c)) in
-      let pass = and (and (passes p p′) few′) (passes m m′) in
+      let pass = and (and (and (passes p p′) (passes (q .told) q′)) few′) (passes m m′) in
       record {
-        told = e ∙ sym (sound-parts s ∙ ap (λ (q : Bool). q && stateSound s) pass);
+        told = e ∙ sym (sound-parts s ∙ ap (λ (z : Bool). z && stateSound s) pass);
         ready = λ z.
             record {
               clashes = c;
-              delays = f;
+              delays = q .ready (passes refl q′);
               ticks = g;
               path = h .coded (state-read s r (counted (s .batch) (s .path) l r c h) (sym e ∙ z));
             };

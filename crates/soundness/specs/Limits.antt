@@ -1,4 +1,4 @@
--- Parts of the definition of a sound record that one loop tests: the ticks, the delays, the starts.
+-- Parts of the definition of a sound record that one loop tests: the ticks, the starts.
 use Prim.Native.Nat.{ℕ}
 use mathlib.Core.Bool.{Bool, _&&_}
 use mathlib.Core.List.{List}
@@ -6,21 +6,17 @@ use lib.Dec.{leb}
 use Rattle.model.specs.declared.Batch.{Batch}
 use Rattle.model.specs.Common.{all, count}
 use Rattle.model.specs.Limits.{mostStart}
-use Rattle.model.specs.Batch.{ticks, delaysOf}
+use Rattle.model.specs.Batch.{ticks}
 use Rattle.model.specs.Plan.{start}
-use Rattle.model.specs.Open.{countsOk, ticksOk, jobsOk, weightOk}
+use Rattle.model.specs.Open.{countsOk, ticksOk}
 
 -- each p is within its limits
 unfoldable pub ticksPass : Batch → Bool
 ticksPass b = all (λ i. ticksOk (ticks b i)) (count 0 (b .n))
 
--- each delay's jobs and weight are within their limits
-unfoldable pub delaysPass : Batch → Bool
-delaysPass b = all (jobsOk (b .n)) (delaysOf b) && all weightOk (delaysOf b)
-
--- the batch passes 4, 5 and 6
-unfoldable pub limitsPass : Batch → Bool
-limitsPass b = countsOk (b .n) (b .m) && ticksPass b && delaysPass b
+-- n, m and each p are within their limits
+unfoldable pub countsPass : Batch → Bool
+countsPass b = countsOk (b .n) (b .m) && ticksPass b
 
 -- the first n starts are at most 23,000
 unfoldable pub startsPass : ℕ → List ℕ → Bool

@@ -1,13 +1,13 @@
 // Whether a record from anywhere is sound, and in the same pass what a run works on: the clash list, the delays and the ticks as
 // arrays, and the path's turns as numbers. Nothing past a limit is read before the limit is known to hold.
-use crate::batch::limits_pass;
+use crate::batch::counts_pass;
 use crate::path::read_path;
 use crate::state::state_ok;
 use clashes::Clashes;
 use clashes::list_clashes;
 use model::Search;
 use starts::delays::Delays;
-use starts::delays::delays_of;
+use starts::delays::read_delays;
 use starts::delays::ticks_of;
 use starts::met::read_delays_met;
 ghost use mathlib.Core.Path.{_≡_};
@@ -56,15 +56,19 @@ pub fn examine(search: Search) -> Examined
     ensures { λ r. ⌜ Examines search r ⌝ }
 {
     let batch = search.batch;
-    if !limits_pass(batch) {
+    if !counts_pass(batch) {
         return unsound();
     }
+    let read = read_delays(batch);
+    if !read.passed {
+        return unsound();
+    }
+    let delays = read.delays;
     let clashes = list_clashes(batch);
     let count = clashes.count;
     if 1024 < count {
         return unsound();
     }
-    let delays = delays_of(batch);
     if !read_delays_met(batch, delays) {
         return unsound();
     }

@@ -1,19 +1,21 @@
--- What the tests of a sound batch give a caller: its delays can be read, the arrays then hold them, and its jobs are short.
-use mathlib.Core.Path.{_≡_}
+-- What the tests of a sound batch give a caller: the arrays that are read hold its delays.
+use mathlib.Core.Path.{_≡_, _∙_}
 use mathlib.Core.Bool.{Bool, true}
 use mathlib.Core.List.{map}
 use Prim.Native.Nat.{ℕ, _≤_, _<_}
-use Rattle.model.specs.declared.Delay.{Delay}
 use Rattle.model.specs.declared.Batch.{Batch}
 use Rattle.model.specs.Common.{all, count}
 use Rattle.model.specs.Batch.{delayOf, delaysOf}
 use Rattle.model.specs.Open.{jobsOk, weightOk}
 use Rattle.model.proofs.ListLaws.{all-each, index-in}
-use Rattle.model.proofs.LimitLaws.{jobs-iff, weight-iff}
-use Rattle.starts.specs.Code.{Limited, coded}
-use Rattle.starts.specs.Delays.{Readable, delaysRead}
+use Rattle.model.proofs.BoolLaws.{and}
+use Rattle.model.proofs.LimitLaws.{jobs-iff}
+use Rattle.starts.specs.declared.delays.Reading.{Reading}
+use Rattle.starts.specs.Code.{coded}
+use Rattle.starts.specs.Delays.{DelaysSound, delaysPass, delaysRead, ReadsDelays}
 use Rattle.starts.specs.Least.{HoldsDelays}
 use Rattle.starts.proofs.FillLaws.{filled-at}
+use Rattle.starts.proofs.DelaysLaws.{weight-limited}
 
 -- ---- tests of every item
 
@@ -22,13 +24,6 @@ pub all-listed : {A : Type 0} (f : A → Bool) (g : ℕ → A) (m : ℕ) → all
 all-listed f g m e k h = all-each f (map g (count 0 m)) e (index-in g m k h)
 
 -- ---- weights and jobs of delays
-
-weight-limited : (q : Delay) → weightOk q ≡ true → Limited (q .weight)
-weight-limited q e = let h = weight-iff q .0 e in record { low = h .0; high = h .1 }
-
-pub readable : (b : Batch) → b .m ≤ 128 → all weightOk (delaysOf b) ≡ true → Readable b
-unfolding delaysOf
-readable b few e = record { few = few; weights = λ k p. weight-limited (delayOf b k) (all-listed weightOk (delayOf b) (b .m) e k p) }
 
 -- the arrays that are read from a sound batch hold its delays
 pub holds-read : (b : Batch) → b .m ≤ 128 → all (jobsOk (b .n)) (delaysOf b) ≡ true → all weightOk (delaysOf b) ≡ true → HoldsDelays b (delaysRead b .from) (delaysRead b .to) (delaysRead b .code)
@@ -41,5 +36,10 @@ holds-read b few e g =
       code = λ k p. filled-at (λ i. coded (delayOf b i .weight)) 128 (b .m) k few p;
       fromFits = λ k p. jobs-iff (b .n) (delayOf b k) .0 (all-listed (jobsOk (b .n)) (delayOf b) (b .m) e k p) .0;
       toFits = λ k p. jobs-iff (b .n) (delayOf b k) .0 (all-listed (jobsOk (b .n)) (delayOf b) (b .m) e k p) .1;
-      weightFits = readable b few g .weights;
+      weightFits = λ k p. weight-limited (delayOf b k) (all-listed weightOk (delayOf b) (b .m) g k p);
     }
+
+-- and they are what reading it gives
+pub sound-read : (b : Batch) → DelaysSound b → (r : Reading) → ReadsDelays b r → r .delays ≡ delaysRead b
+unfolding delaysPass
+sound-read b ok r h = h .ready (h .told ∙ and (ok .jobs) (ok .weights))

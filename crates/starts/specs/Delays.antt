@@ -1,20 +1,16 @@
 -- A batch's delays as parallel arrays of 128 places, and its jobs' ticks as an array of 24.
-use Prim.Native.Nat.{ℕ, _≤_, _<_}
+use Prim.Native.Nat.{ℕ, _≤_}
 use mathlib.Core.Path.{_≡_}
-use mathlib.Core.Bool.{true}
+use mathlib.Core.Bool.{Bool, true, _&&_}
 use mathlib.Core.List.{List}
 use Rattle.model.specs.declared.Batch.{Batch}
 use Rattle.model.specs.Common.{all}
 use Rattle.model.specs.Batch.{delayOf, delaysOf, ticks}
 use Rattle.model.specs.Open.{jobsOk, weightOk}
 use Rattle.starts.specs.declared.delays.Delays.{Delays}
-use Rattle.starts.specs.Code.{Limited, coded}
+use Rattle.starts.specs.declared.delays.Reading.{Reading}
+use Rattle.starts.specs.Code.{coded}
 use Rattle.starts.specs.Rounds.{filled}
-
--- at most 128 delays, each weight within its limits
-pub record Readable (b : Batch) : Type 0 where
-  pub few : b .m ≤ 128
-  pub weights : (k : ℕ) → k < b .m → Limited (delayOf b k .weight)
 
 -- 1 to 24 jobs, at most 128 delays, and each delay passes 5 and 6
 pub record DelaysSound (b : Batch) : Type 0 where
@@ -32,6 +28,15 @@ delaysRead b =
       to = filled (λ k. delayOf b k .to) 128 (b .m);
       code = filled (λ k. coded (delayOf b k .weight)) 128 (b .m);
     }
+
+-- each delay's jobs and weight are within their limits
+unfoldable pub delaysPass : Batch → Bool
+delaysPass b = all (jobsOk (b .n)) (delaysOf b) && all weightOk (delaysOf b)
+
+-- whether each delay passes, and what they say if each does
+pub record ReadsDelays (b : Batch) (r : Reading) : Type 0 where
+  pub told : r .passed ≡ delaysPass b
+  pub ready : r .passed ≡ true → r .delays ≡ delaysRead b
 
 -- the ticks of the first n jobs, and 0 past them
 unfoldable pub ticksRead : Batch → List ℕ

@@ -1,11 +1,13 @@
 // A batch's delays as plain parallel arrays, and its jobs' ticks: what a search copies out of the batch once.
-use delay_list::nth_delay;
+use delay_list::four_of;
+use limits::delay_ok;
 use model::Batch;
+use model::Delay;
 use model::wide;
 ghost use mathlib.Core.Path.{_≡_};
 ghost use Prim.Native.Nat.{_≤_};
 ghost use Rattle.starts.specs.Code.{Limited, coded};
-ghost use Rattle.starts.specs.Delays.{Readable, delaysRead, ticksRead};
+ghost use Rattle.starts.specs.Delays.{ReadsDelays, ticksRead};
 
 // The first m places count: from, to, and the weight plus 30,000. The others are 0.
 pub struct Delays {
@@ -23,25 +25,47 @@ fn code_of(w: i16) -> u16
     lifted + 29000
 }
 
-pub fn delays_of(batch: Batch) -> Delays
-    requires { ⌜ Readable batch ⌝ }
-    ensures { λ r. ⌜ r ≡ delaysRead batch ⌝ }
+// The delays read, if each of them passes; otherwise only that one does not.
+pub struct Reading {
+    pub passed: bool,
+    pub delays: Delays,
+}
+
+// The first m delays, tested and copied in one pass.
+pub fn read_delays(batch: Batch) -> Reading
+    requires { ⌜ batch .m ≤ 128 ⌝ }
+    ensures { λ r. ⌜ ReadsDelays batch r ⌝ }
 {
     let mut from = [0u8; 128];
     let mut to = [0u8; 128];
     let mut code = [0u16; 128];
+    let n = batch.n;
     let list = batch.delays;
     let m = wide(batch.m);
+    let mut four = [Delay {
+        from: 0,
+        to: 0,
+        weight: 0,
+    }; 4];
     let mut k: usize = 0;
     while k < m {
-        let q = nth_delay(list, k);
-        let w = q.weight;
+        four = four_of(list, four, k);
+        let q = four[k % 4];
+        if !delay_ok(n, q) {
+            return Reading {
+                passed: false,
+                delays: Delays { from, to, code },
+            };
+        }
         from[k] = q.from;
         to[k] = q.to;
-        code[k] = code_of(w);
+        code[k] = code_of(q.weight);
         k = k + 1;
     }
-    Delays { from, to, code }
+    Reading {
+        passed: true,
+        delays: Delays { from, to, code },
+    }
 }
 
 // The ticks of each of the first n jobs, and 0 in the places past them.

@@ -1,6 +1,6 @@
 // Whether some starts meet a batch's delays: they do exactly where the delays alone have least starts.
 use crate::delays::Delays;
-use crate::delays::delays_of;
+use crate::delays::read_delays;
 use crate::least_starts;
 use model::Batch;
 use model::wide;
@@ -28,5 +28,6 @@ pub fn delays_met(batch: Batch) -> bool
     requires { ⌜ DelaysSound batch ⌝ }
     ensures { λ r. ⌜ r ≡ delaysMet batch ⌝ }
 {
-    read_delays_met(batch, delays_of(batch))
+    let read = read_delays(batch);
+    read_delays_met(batch, read.delays)
 }

@@ -2,7 +2,6 @@
 use model::wide16;
 ghost use mathlib.Core.Path.{_≡_};
 ghost use Prim.Native.Nat.{_≤_, _<_, _/_};
-ghost use lib.ListN.{getD};
 ghost use Rattle.starts.specs.Table.{putIn, turnIn, withDelays, withTurns, DelaysFit, TurnFits, TurnsFit};
 
 // A place keeps the larger of what it has and a weight's code.

@@ -14,8 +14,9 @@ use crate::frame::put_delay;
 use crate::frame::put_header;
 use crate::frame::put_pair;
 use crate::number::wide;
-use delay_list::nth_delay;
+use delay_list::four_of;
 use model::Batch;
+use model::Delay;
 use model::Job;
 
 // The whole batch text at the buffer's front.
@@ -96,10 +97,15 @@ fn put_delays(buffer: &mut [u8], at: usize, batch: Batch) -> usize
     let list = batch.delays;
     let m = wide(batch.m);
     let mut next = at;
+    let mut four = [Delay {
+        from: 0,
+        to: 0,
+        weight: 0,
+    }; 4];
     let mut k: usize = 0;
     while k < m {
-        let delay = nth_delay(list, k);
-        next = put_delay(buffer, next, delay);
+        four = four_of(list, four, k);
+        next = put_delay(buffer, next, four[k % 4]);
         k = k + 1;
     }
     next

@@ -1,5 +1,5 @@
 -- `plan::input::read_all` is safe and ends. The measure is the number of turns that are left; the buffer keeps its length.
-use mathlib.Core.Path.{_≡_, refl, _∙_}
+use mathlib.Core.Path.{_≡_, refl}
 use native.Mathlib.Omega.{arith}
 use borrow.Author.Needs.{needs}
 use lib.ListN.{length}

@@ -1,5 +1,5 @@
 -- `plan::text::searched` is safe and ends. The measure is the number of runs that are left; the text keeps its length.
-use Prim.Native.Nat.{ℕ, _-_}
+use Prim.Native.Nat.{_-_}
 use mathlib.Core.Path.{_≡_, refl}
 use native.Mathlib.Omega.{arith}
 use borrow.Author.Needs.{needs}

@@ -1,5 +1,4 @@
 -- `search::answer::answered` meets its contract, by the cases of ended and best.
-use mathlib.Core.Path.{_≡_, refl}
 use borrow.Author.Needs.{needs}
 use borrow.Author.Tests.{not-true, not-false}
 use Rattle.search.proofs.AnswerLaws.{told-spent, told-none, told-plan}

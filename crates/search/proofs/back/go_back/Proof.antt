@@ -1,11 +1,7 @@
 -- `search::back::go_back` meets its contract. While turns of side 1 are dropped, what going back leaves of the rest is what it leaves of all.
-use Prim.Native.Nat.{ℕ, _≤_}
-use mathlib.Core.Path.{_≡_, refl, sym, _∙_}
+use mathlib.Core.Path.{refl}
 use native.Mathlib.Omega.{arith}
 use borrow.Author.Needs.{needs}
-use lib.ListN.{length}
-use Rattle.model.specs.Search.{turnedBack}
-use Rattle.search.specs.Walk.{turnsIn, backAs}
 use Rattle.search.proofs.BackLaws.{Dropping, last-small, dropped-all, drops, moves}
 use Rattle.search.proofs.back.go_back.Statement.{statement}
 use Rattle.search.proofs.back.go_back.Tie as tie

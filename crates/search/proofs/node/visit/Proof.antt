@@ -1,5 +1,5 @@
 -- `search::node::visit` meets its contract: in each case its answer is the next place of whatever batch the arrays stand for.
-use mathlib.Core.Path.{_≡_, refl}
+use mathlib.Core.Path.{refl}
 use borrow.Author.Needs.{needs}
 use borrow.Author.Tests.{not-true, not-false}
 use native.Mathlib.Omega.{arith}

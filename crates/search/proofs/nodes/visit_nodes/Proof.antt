@@ -1,8 +1,6 @@
 -- `search::nodes::visit_nodes` meets its contract. The invariant: the arrays still stand for the batch, and the nodes that are left lead where
 -- all of them lead.
-use Prim.Native.Nat.{ℕ, _+_, _≤_}
-use mathlib.Core.Path.{_≡_, refl}
-use native.Mathlib.Omega.{arith}
+use mathlib.Core.Path.{refl}
 use borrow.Author.Needs.{needs}
 use Rattle.search.proofs.NodesLaws.{Going, counted-less, still-ready, goes-on, stops, used-up}
 use Rattle.search.proofs.nodes.visit_nodes.Statement.{statement}

@@ -1,5 +1,5 @@
 -- `search::path::path_of` meets its contract: after k turns the path is the first k turns and empty places.
-use Prim.Native.Nat.{ℕ, _-_, _≤_}
+use Prim.Native.Nat.{_-_, _≤_}
 use mathlib.Core.Path.{_≡_, refl}
 use native.Mathlib.Omega.{arith}
 use borrow.Author.Needs.{needs}

@@ -1,6 +1,5 @@
 -- `search::run::advance` meets its contract: the arrays stand for the record's batch and place, and the nodes lead from it.
-use mathlib.Core.Path.{_≡_, refl, _∙_}
-use native.Mathlib.Omega.{arith}
+use mathlib.Core.Path.{_≡_, _∙_}
 use borrow.Author.Needs.{needs}
 use lib.ListN.{length, length-map}
 use Rattle.search.proofs.AdvanceLaws.{first-works, advanced}

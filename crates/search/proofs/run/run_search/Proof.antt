@@ -1,5 +1,5 @@
 -- `search::run::run_search` meets its contract: each refusal in its turn, and otherwise the nodes and their answer.
-use mathlib.Core.Path.{_≡_, refl, ap, sym, _∙_}
+use mathlib.Core.Path.{ap, sym, _∙_}
 use mathlib.Core.Bool.{not}
 use native.Mathlib.Omega.{arith}
 use borrow.Author.Needs.{needs}

@@ -4,7 +4,7 @@ use mathlib.Core.Path.{_≡_}
 use borrow.Author.Needs.{needs}
 use Rattle.soundness.specs.Limits.{ticksPass}
 use Rattle.model.proofs.BoolLaws.{passes, fails}
-use Rattle.soundness.proofs.AllLaws.{allFrom, all-passed, all-failed, all-ended}
+use Rattle.model.proofs.AllLaws.{allFrom, all-passed, all-failed, all-ended}
 use Rattle.soundness.proofs.LimitLaws.{tickTest, ticks-start, tick-told}
 use Rattle.soundness.proofs.batch.ticks_pass.Statement.{statement}
 use Rattle.soundness.proofs.batch.ticks_pass.Tie as tie

@@ -1,17 +1,17 @@
--- `delays_met` meets its contract: it reads the delays and hands them on.
+-- `delays_met` meets its contract: the delays of a sound batch pass, so what is read of them is handed on.
 use borrow.Author.Needs.{needs}
-use Rattle.starts.proofs.SoundLaws.{readable}
+use Rattle.starts.proofs.SoundLaws.{sound-read}
 use Rattle.starts.proofs.met.delays_met.Statement.{statement}
 use Rattle.starts.proofs.met.delays_met.Tie as tie
 
-delays-of-requires : tie.Need-delays-of-requires
-delays-of-requires c κs = readable _ (c .pre .few) (c .pre .weights)
+read-delays-requires : tie.Need-read-delays-requires
+read-delays-requires c κs = search needs
 
 read-delays-met-requires : tie.Need-read-delays-met-requires
-read-delays-met-requires c κs = search needs
+read-delays-met-requires c κs = (c .before .pre, sound-read _ (c .before .pre) _ (c .read-delays .ensures))
 
 returns : tie.Need-returns
 returns c = search needs
 
 pub delays-met-spec : {M : Type 1} → statement M
-delays-met-spec = tie.close (tie.spec delays-of-requires read-delays-met-requires returns)
+delays-met-spec = tie.close (tie.spec read-delays-requires read-delays-met-requires returns)

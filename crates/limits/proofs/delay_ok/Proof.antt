@@ -1,9 +1,9 @@
--- `batch::delay_ok` meets its contract.
+-- `delay_ok` meets its contract.
 use mathlib.Core.Path.{_∙_}
 use borrow.Author.Needs.{needs}
-use Rattle.soundness.proofs.BoolLaws.{and-then, and-else}
-use Rattle.soundness.proofs.batch.delay_ok.Statement.{statement}
-use Rattle.soundness.proofs.batch.delay_ok.Tie as tie
+use Rattle.model.proofs.BoolLaws.{and-then, and-else}
+use Rattle.limits.proofs.delay_ok.Statement.{statement}
+use Rattle.limits.proofs.delay_ok.Tie as tie
 
 jobs-ok-requires : tie.Need-jobs-ok-requires
 jobs-ok-requires c κs = search needs

@@ -1,0 +1,2 @@
+-- The laws of reading delays by fours.
+pub mod FourLaws
