@@ -24,7 +24,8 @@ SHORT = 1  # seconds up to which a run is repeated
 
 
 def stop(words):
-    sys.exit("bench/optima.py: " + words)
+    print("bench/optima.py: " + words, file=sys.stderr)
+    sys.exit(2)
 
 
 def read_batch(path):
@@ -162,6 +163,9 @@ def measured(commands, solution, racing):
 def main(words):
     if len(words) < 2:
         stop("usage: optima.py MEASURE FILE..")
+    for path in words:
+        if not os.path.isfile(path):
+            stop("no file '%s'" % path)
     measure, files = os.path.abspath(words[0]), words[1:]
     names = ["library", "z3", "cbc", "glpk"]
     racing = list(names)

@@ -17,7 +17,8 @@ SOLVERS = ["library", "z3", "cbc", "glpk"]
 
 
 def stop(words):
-    sys.exit("bench/report.py: " + words)
+    print("bench/report.py: " + words, file=sys.stderr)
+    sys.exit(2)
 
 
 def rows(path):
@@ -80,6 +81,9 @@ def optima_table(found):
 def main(words):
     if len(words) != 4:
         stop("usage: report.py MACHINE NODES CALLS OPTIMA")
+    for path in words:
+        if not os.path.isfile(path):
+            stop("no file '%s'" % path)
     with open(words[0]) as file:
         machine = file.read().strip()
     optima = rows(words[3])

@@ -1,5 +1,7 @@
-"""Random batches, and running a program. A batch is (jobs, delays): jobs are lists of masks."""
+"""Random batches, running a program, and the words of a test's command line. A batch is (jobs, delays): jobs are lists of masks."""
+import os
 import subprocess
+import sys
 
 SECONDS = 60  # that a program may take for one file
 
@@ -10,6 +12,17 @@ def output(program, data, seconds=SECONDS):
         return subprocess.run(program, input=data, capture_output=True, timeout=seconds).stdout
     except subprocess.TimeoutExpired:
         return b"no end in %d seconds" % seconds
+
+
+def words_of(usage):
+    """The words of the command line, as many as the usage names; all but the last, COUNTS, are files that are there."""
+    words = sys.argv[1:]
+    if len(words) != len(usage.split()) - 1:
+        sys.exit("usage: " + usage)
+    for word in words[:-1]:
+        if not os.path.isfile(word):
+            sys.exit("%s: no file '%s'" % (usage.split()[0], word))
+    return words
 
 
 def batch(rng, n, most_ticks):

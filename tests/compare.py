@@ -5,7 +5,7 @@ import random
 import sys
 from collections import Counter, namedtuple
 
-from batches import SECONDS, clash_count, joined, lines, output
+from batches import SECONDS, clash_count, joined, lines, output, words_of
 from files import all_files, past_the_cut, some_batch
 from lists import TEXTS, all_lists, opening
 
@@ -38,7 +38,7 @@ def kind_of(answer):
 
 
 def main():
-    plan, calls, own, counts = sys.argv[1:5]
+    plan, calls, own, counts = words_of("compare.py PLAN CALLS INDEPENDENT COUNTS")
     independent = [own, "calls"]
     rng = random.Random(1)
     right, wrong, seen = Counter(), Counter(), Counter()
@@ -64,11 +64,13 @@ def main():
         k = next((k for k, (a, b) in enumerate(zip(mine, theirs)) if a != b), len(theirs))
         same = mine == theirs and k == len(listed)
         note(kind, same, " ; ".join(listed[:k + 1])[-300:], mine[k:k + 1], theirs[k:k + 1])
-    # PLAN itself: files of every kind that end soon, and input past 65,536 bytes.
+    # PLAN itself: files of every kind that end soon, input past 65,536 bytes, and a batch that takes more than one run of 1,000,000 nodes.
     ends = answers(independent, [call for _, data in files for call in (opening(data), "R 20000 24")])[1::2]
     soon = [one for one, end in zip(files, ends) if not end.startswith("R S")]
     rng.shuffle(soon)
     chosen = [("past the cut", data) for data in past_the_cut()]
+    with open("../bench/batches/twelve.batch", "rb") as file:
+        chosen.append(("two runs", file.read()))
     for kind in dict(files):
         chosen += [one for one in soon if one[0] == kind][:100 if kind == "valid" else 20]
     for kind, data in chosen:

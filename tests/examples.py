@@ -5,7 +5,7 @@ import re
 import sys
 from collections import Counter
 
-from batches import output
+from batches import output, words_of
 
 
 def file_bytes(text):
@@ -25,7 +25,7 @@ def same(due, got):
 
 
 def main():
-    plan, calls, examples, counts = sys.argv[1:5]
+    plan, calls, examples, counts = words_of("examples.py PLAN CALLS EXAMPLES COUNTS")
     right, wrong, blocks = Counter(), Counter(), []
 
     def note(kind, name, due, got, good):

@@ -27,7 +27,7 @@ fn main() {
     let mut line = [0u8; 131080];
     let opened = planner::open(&line[0..0]);
     let search = opened.search;
-    session(
+    answer_all(
         State {
             search: search,
             filled: 0,
@@ -38,7 +38,7 @@ fn main() {
 }
 
 // A proved loop has to end, and nothing says that input does: the loop counts its turns down from a number that no run uses up.
-fn session(state: State, line: &mut [u8]) {
+fn answer_all(state: State, line: &mut [u8]) {
     let mut now = state;
     let mut turns = u64::MAX;
     while turns > 0 && now.more {

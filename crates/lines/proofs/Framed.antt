@@ -1,7 +1,7 @@
 -- What a caller of `line_at` knows by its answer: of a frame, the bytes that were read and where each stands; of a broken line, that
 -- there is none to read.
 use Prim.Native.Nat.{ℕ, _+_, _*_, _<_}
-use mathlib.Core.Path.{_≡_, refl, ap, sym, _∙_, subst}
+use mathlib.Core.Path.{_≡_, refl, sym, _∙_, subst}
 use mathlib.Core.Bool.{Bool, true, false}
 use mathlib.Core.Option.{Option, none, some}
 use mathlib.Core.List.{List}
@@ -74,7 +74,3 @@ line-broken r file at p q = go (readLine (drop at file)) refl (sym p ∙ q)
     go : (o : Option (List ℕ × List ℕ)) → readLine (drop at file) ≡ o → asLine at o ≡ Broken → readLine (drop at file) ≡ none
     go none e h = e
     go (some f) e h = let z : _≡_ {A = ℕ} 0 1 = cc in absurd (omega arith)
-
--- the frame's byte k is the one that `byte_at` reads at its place
-pub frame-byte : {file : List ℕ} {at end : ℕ} (f : Framed file at end) (k place r : ℕ) → place ≡ at + 2 * k → place < end → r ≡ byteAt file place → r ≡ getD (f .bytes) k 0
-frame-byte {file} f k place r p l e = e ∙ ap (byteAt file) p ∙ sym (f .each k (omega (arith, f .size)))

@@ -146,10 +146,6 @@ read-format file b = (
   λ h. ap readFile (h .1) ∙ file-read b (h .0) ∙ ap accept (sym (h .2)),
 )
 
--- blanking its unused places leaves a batch within the limits, with the same text
-pub blanked-format : (b : Batch) → Within b → Within (blanked b) × (batchFile b ≡ batchFile (blanked b)) × (blanked b ≡ blanked (blanked b))
-blanked-format b w = read-format (batchFile b) (blanked b) .0 (file-read b w)
-
 -- a file is opened exactly when it is read and its batch passes 9 and 10
 pub open-read : (file : List ℕ) (b : Batch) → (openFile file ≡ accept b) ↔ ((readFile file ≡ accept b) × (fewClashes b ≡ true) × (delaysMet b ≡ true))
 unfolding openFile

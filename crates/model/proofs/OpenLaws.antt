@@ -16,8 +16,9 @@ use Rattle.model.specs.declared.Best.the-variants.{Nothing, Latency}
 use Rattle.model.specs.declared.Search.{Search}
 use Rattle.model.specs.declared.Opening.the-variants.{Accepted}
 use Rattle.model.specs.declared.Opened.{Opened}
+use Rattle.model.specs.declared.Written.{Written}
 use Rattle.model.specs.declared.Written.the-variants.{Bytes}
-use Rattle.model.specs.Common.{count, isSome, Outcome, refuse, accept, _>>=_, require}
+use Rattle.model.specs.Common.{all, count, isSome, Outcome, refuse, accept, _>>=_, require}
 use Rattle.model.specs.Limits.{mostClashes}
 use Rattle.model.specs.Batch.{ticks, delaysOf}
 use Rattle.model.specs.Plan.{KeepsDelays, Valid, latency}
@@ -25,41 +26,54 @@ use Rattle.model.specs.Clash.{clashes}
 use Rattle.model.specs.Starts.{leastStarts}
 use Rattle.model.specs.Search.{placeOf, searchOf, freshPlace, freshSearch, nodes}
 use Rattle.model.specs.Format.{Within, batchFile, BatchFile}
-use Rattle.model.specs.Open.{ticksOk, jobsOk, weightOk, fewClashes, delaysMet, openFile, openedAs, opened}
-use Rattle.model.specs.Sound.{soundBest, sound}
+use Rattle.model.specs.Open.{countsOk, ticksOk, jobsOk, weightOk, fewClashes, delaysMet, openFile, openedAs, opened}
+use Rattle.model.specs.Sound.{soundBatch, soundBest, sound}
 use Rattle.model.specs.Run.{runRefusal, answerOf, ran}
 use Rattle.model.specs.Text.{planLines, planText, batchText, fitting, writtenAs, written}
-use Rattle.model.specs.Answers.{plan, runTold, openTold, bestTold}
+use Rattle.model.specs.Answers.{plan, runTold, openTold, writeTold, bestTold}
 use Rattle.model.specs.Calls.{Call, call, after, granted}
 use Rattle.model.specs.Demands.{PlanWith, RunLeaves, demand2, demand3}
 use Rattle.model.proofs.BoolLaws.{apart}
-use Rattle.model.proofs.ListLaws.{each-all, count-some}
+use Rattle.model.proofs.ListLaws.{all-each, each-all, count-some}
 use Rattle.model.proofs.OutcomeLaws.{refused}
 use Rattle.model.proofs.StartsLaws.{Inside, least-length, least-keeps, least-found}
 use Rattle.model.proofs.GoodLaws.{good-none, ValidBest}
 use Rattle.model.proofs.EndLaws.{End, search-ends, ends-unique, best-valid, nodes-fresh}
-use Rattle.model.proofs.SoundLaws.{Passes, fits, place-sound}
+use Rattle.model.proofs.SoundLaws.{Passes, sound-passes, passes-sound, fits, place-sound}
 use Rattle.model.proofs.CallLaws.{after-fresh, lists-reach, at-batch}
-use Rattle.model.proofs.LimitLaws.{within-limits}
+use Rattle.model.proofs.LimitLaws.{jobs-iff, within-limits}
 use Rattle.model.proofs.FileLaws.{read-format, open-read}
 use Rattle.model.proofs.LeaveLaws.{demand-1}
 
--- ---- refusal 10: delays can be met exactly when some starts keep them
+-- ---- refusal 10: delays of jobs below n can be met exactly when some starts keep them
 
-delays-inside : (b : Batch) → Within b → Inside (b .n) (delaysOf b)
-unfolding Inside
-delays-inside b w q m = let e = w .ends-each q m in (e .0, e .1)
-
-pub met-starts : (b : Batch) → Within b → (delaysMet b ≡ true) ↔ ((ts : List ℕ) × (length ts ≡ b .n) × KeepsDelays b ts)
+pub met-starts : (b : Batch) → Inside (b .n) (delaysOf b) → (delaysMet b ≡ true) ↔ ((ts : List ℕ) × (length ts ≡ b .n) × KeepsDelays b ts)
 unfolding delaysMet KeepsDelays isSome
-met-starts b w = (there (leastStarts (b .n) (delaysOf b)) refl, back)
+met-starts b in-b = (there (leastStarts (b .n) (delaysOf b)) refl, back)
   where
     there : (o : Option (List ℕ)) → leastStarts (b .n) (delaysOf b) ≡ o → isSome o ≡ true → (ts : List ℕ) × (length ts ≡ b .n) × KeepsDelays b ts
     there none e h = apart h
-    there (some ts) e h = (ts, least-length (b .n) (delaysOf b) ts e, least-keeps (b .n) (delaysOf b) (delays-inside b w) ts e)
+    there (some ts) e h = (ts, least-length (b .n) (delaysOf b) ts e, least-keeps (b .n) (delaysOf b) in-b ts e)
 
     back : (ts : List ℕ) × (length ts ≡ b .n) × KeepsDelays b ts → isSome (leastStarts (b .n) (delaysOf b)) ≡ true
-    back (ts, n, k) = ap isSome (least-found (b .n) (delaysOf b) (delays-inside b w) ts k)
+    back (ts, n, k) = ap isSome (least-found (b .n) (delaysOf b) in-b ts k)
+
+within-inside : (b : Batch) → Within b → Inside (b .n) (delaysOf b)
+unfolding Inside
+within-inside b w q m = let e = w .ends-each q m in (e .0, e .1)
+
+-- so it is in every record: a batch that passes 4, 5, 6 and 9 is sound exactly when some starts keep its delays
+module _ (b : Batch) (counts : countsOk (b .n) (b .m) ≡ true) (ticks-each : all (λ i. ticksOk (ticks b i)) (count 0 (b .n)) ≡ true) (jobs-each : all (jobsOk (b .n)) (delaysOf b) ≡ true) (weight-each : all weightOk (delaysOf b) ≡ true) (few : fewClashes b ≡ true) where
+  passed-inside : Inside (b .n) (delaysOf b)
+  unfolding Inside
+  passed-inside q m = let e = jobs-iff (b .n) q .0 (all-each (jobsOk (b .n)) (delaysOf b) jobs-each m) in (e .0, e .1)
+
+  pub sound-starts : (soundBatch b ≡ true) ↔ ((ts : List ℕ) × (length ts ≡ b .n) × KeepsDelays b ts)
+  sound-starts =
+      let met = met-starts b passed-inside in (
+        λ e. met .0 (sound-passes b e .met),
+        λ t. passes-sound b (record { counts = counts; ticks-each = ticks-each; jobs-each = jobs-each; weight-each = weight-each; few = few; met = met .1 t }),
+      )
 
 -- ---- opening accepts exactly the batch files
 
@@ -71,7 +85,7 @@ open-format file b = (there, back)
     there e =
         let r = open-read file b .0 e in
         let f = read-format file b .0 (r .0) in
-        let s = met-starts b (f .0) .0 (r .2) in
+        let s = met-starts b (within-inside b (f .0)) .0 (r .2) in
         record {
           within = f .0;
           text = f .1;
@@ -87,7 +101,7 @@ open-format file b = (there, back)
         open-read file b .1 (
           read-format file b .1 (f .within, f .text, f .blank),
           le-leb (length (clashes b)) mostClashes (f .few),
-          met-starts b (f .within) .1 (f .starts, f .starts-each, f .starts-keep),
+          met-starts b (within-inside b (f .within)) .1 (f .starts, f .starts-each, f .starts-keep),
         )
 
 -- ---- its batch passes what soundness tests, and its fresh search is sound
@@ -102,7 +116,7 @@ file-passes file b f =
       jobs-each = each-all (jobsOk (b .n)) (delaysOf b) (l .jobs-each);
       weight-each = each-all weightOk (delaysOf b) (l .weights-each);
       few = le-leb (length (clashes b)) mostClashes (f .few);
-      met = met-starts b (f .within) .1 (f .starts, f .starts-each, f .starts-keep);
+      met = met-starts b (within-inside b (f .within)) .1 (f .starts, f .starts-each, f .starts-keep);
     }
 
 pub fresh-sound : (b : Batch) → Passes b → sound (freshSearch b) ≡ true
@@ -223,12 +237,14 @@ module _ (file : List ℕ) (b : Batch) (f : BatchFile file b) where
   text-plans s a e = rw (a .is-sound, e) (ap (λ (c : Batch). accept (planLines (s .best) (c .n) (s .starts) (s .total))) (a .batch))
 
 pub demand-2 : demand2
-unfolding demand2 opened openedAs openTold
+unfolding demand2 opened openedAs openTold writeTold
 demand-2 file =
     record {
       opens = (λ e. there (openFile file) refl e, λ (b, f). ap (λ (o : Outcome Batch). openTold (openedAs o .answer)) (open-format file b .1 f));
       yields = λ b f. ap (λ (o : Outcome Batch). openedAs o .search) (open-format file b .1 f);
-      written-back = λ b f cs. file-back file b f (after (freshSearch b) cs) (after-list file b f cs);
+      written-back = λ b f cs buffer room.
+          let z = file-back file b f (after (freshSearch b) cs) (after-list file b f cs) buffer room in
+          (ap (λ (x : Written × List ℕ). writeTold (x .0)) z, ap (λ (x : Written × List ℕ). x .1) z);
       best-plans = λ b f cs. plans file b f (after (freshSearch b) cs) (after-list file b f cs);
       answer-plans = λ b f. answer-plans file b f;
       text-plans = λ b f cs. text-plans file b f (after (freshSearch b) cs) (after-list file b f cs);

@@ -66,7 +66,7 @@ pub record Demand2 (file : List ℕ) : Type 0 where
   -- written back byte for byte, after every list of runs
   pub written-back :
       (b : Batch) → BatchFile file b → (cs : List Call) (buffer : List ℕ) → length file ≤ length buffer
-      → written (batchText (after (freshSearch b) cs)) buffer ≡ (Written.Bytes (length file), file ++ drop (length file) buffer)
+      → let w = written (batchText (after (freshSearch b) cs)) buffer in (writeTold (w .0) ≡ accept (length file)) × (w .1 ≡ file ++ drop (length file) buffer)
   -- every plan of a search opened here is valid, with its latency: as best in the record, in an answer with its starts list, and in the
   -- plan text
   pub best-plans : (b : Batch) → BatchFile file b → (cs : List Call) (l : ℕ) → bestTold (after (freshSearch b) cs .best) ≡ some l → PlanWith b (after (freshSearch b) cs .starts) l

@@ -1,7 +1,7 @@
 -- The program `plan`: from the bytes of standard input to those of standard output.
 use Prim.Native.Nat.{ℕ, zero, suc}
-use mathlib.Core.List.{List}
-use lib.ListN.{take, replicate}
+use mathlib.Core.List.{List, _++_}
+use lib.ListN.{length, take, drop, replicate}
 use Rattle.model.specs.declared.Search.{Search}
 use Rattle.model.specs.Common.{Outcome, refuse, accept, _>>=_}
 use Rattle.model.specs.Limits.{mostJobs, mostBudget}
@@ -27,6 +27,14 @@ unfoldable pub printed : Outcome (List ℕ) → List ℕ
 printed (accept text) = text
 printed (refuse k) = refusalLine k
 
--- the first 65,536 bytes. 100 spent runs use up the limit on total, so that the 101st answers otherwise
+-- the text for a batch file. 100 spent runs use up the limit on total, so that the 101st answers otherwise
+unfoldable pub textFor : List ℕ → List ℕ
+textFor file = printed (openFile file >>= λ b. planned 101 (freshSearch b))
+
+-- the first 65,536 bytes are the file
 unfoldable pub program : List ℕ → List ℕ
-program input = printed (openFile (take 65536 input) >>= λ b. planned 101 (freshSearch b))
+program input = textFor (take 65536 input)
+
+-- a text at the front of a buffer: its length, and what the buffer then holds
+unfoldable pub atFront : List ℕ → List ℕ → ℕ × List ℕ
+atFront text buffer = (length text, text ++ drop (length text) buffer)

@@ -92,6 +92,13 @@ pub const EMPTY: Turn = Turn {
     side: 0,
 };
 
+// A batch's place without a delay.
+pub const NO_DELAY: Delay = Delay {
+    from: 0,
+    to: 0,
+    weight: 0,
+};
+
 // The search of a batch before its first node.
 pub fn fresh(batch: Batch) -> Search
     ensures { λ r. ⌜ r ≡ freshSearch batch ⌝ }
@@ -108,7 +115,7 @@ pub fn fresh(batch: Batch) -> Search
 
 // A small number as an index.
 pub fn wide(x: u8) -> usize
-    ensures { λ r. ⌜ r ≡ x ⌝ }
+    ensures { λ r. ⌜ (r ≡ x) × (r < 256) ⌝ }
 {
     x as usize
 }

@@ -1,8 +1,6 @@
 // A whole batch file: its header, its jobs, its delays, and nothing after them.
 use crate::Next;
-use crate::delays::NO_DELAY;
 use crate::delays::read_delays;
-use crate::frame::wide;
 use crate::header::Header;
 use crate::header::header_frame;
 use crate::job::NO_JOB;
@@ -10,7 +8,9 @@ use crate::jobs::read_jobs;
 use lines::Line;
 use lines::line_at;
 use model::Batch;
+use model::NO_DELAY;
 use model::Opening;
+use model::wide;
 ghost use mathlib.Core.Path.{_≡_};
 ghost use mathlib.Core.List.{[]};
 ghost use Prim.Native.Nat.{_≤_};

@@ -5,6 +5,7 @@ use crate::delay::delay_frame;
 use lines::Line;
 use lines::line_at;
 use model::Delay;
+use model::NO_DELAY;
 ghost use mathlib.Core.Path.{_≡_};
 ghost use Prim.Native.Nat.{_≤_};
 ghost use lib.ListN.{length, drop};
@@ -17,13 +18,6 @@ pub struct DelaysRead {
     pub answer: Next,
     pub delays: [Delay; 128],
 }
-
-// A place without a delay.
-pub const NO_DELAY: Delay = Delay {
-    from: 0,
-    to: 0,
-    weight: 0,
-};
 
 fn refused(file: &[u8], number: u8) -> DelaysRead
     ensures { λ r. ⌜ r ≡ delaysTold (now (file .entry)) (refuse number) ⌝ }

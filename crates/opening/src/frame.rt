@@ -5,14 +5,8 @@ ghost use Prim.Native.Nat.{_+_, _<_};
 ghost use Rattle.model.specs.Open.{at as byteOf, wide as wideOf, frameIs, signed};
 ghost use Rattle.opening.specs.Frame.{frameAt, Inside};
 
-// A byte as a count.
-pub fn wide(x: u8) -> usize
-    ensures { λ r. ⌜ (r ≡ x) × (r < 256) ⌝ }
-{
-    x as usize
-}
-
-fn wide16(x: u8) -> u16
+// A byte as a two-byte number.
+fn word(x: u8) -> u16
     ensures { λ r. ⌜ (r ≡ x) × (r < 256) ⌝ }
 {
     x as u16
@@ -33,8 +27,8 @@ pub fn frame_wide(file: &[u8], at: usize, size: usize, k: usize) -> u16
     requires { ⌜ k + 1 < size ⌝ }
     ensures { λ r. ⌜ r ≡ wideOf (frameAt (now (file .entry)) at size) k ⌝ }
 {
-    let high = wide16(frame_byte(file, at, size, k));
-    let low = wide16(frame_byte(file, at, size, k + 1));
+    let high = word(frame_byte(file, at, size, k));
+    let low = word(frame_byte(file, at, size, k + 1));
     high * 256 + low
 }
 

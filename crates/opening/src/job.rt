@@ -2,10 +2,10 @@
 use crate::frame::frame_byte;
 use crate::frame::frame_is;
 use crate::frame::frame_wide;
-use crate::frame::wide;
 use limits::ticks_ok;
 use model::Job;
 use model::Opening;
+use model::wide;
 ghost use mathlib.Core.Path.{_≡_};
 ghost use Prim.Native.Nat.{_+_, _*_, _≤_};
 ghost use lib.ListN.{drop};

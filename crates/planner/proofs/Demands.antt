@@ -5,6 +5,7 @@ use mathlib.Core.Logic.{_↔_}
 use mathlib.Core.Bool.{true}
 use mathlib.Core.Option.{some}
 use mathlib.Core.List.{List, [], _∷_, _++_}
+use lib.ListN.{length, drop}
 use Rattle.model.specs.declared.Batch.{Batch}
 use Rattle.model.specs.declared.Search.{Search}
 use Rattle.model.specs.declared.Opening.the-variants.{Accepted}
@@ -17,13 +18,13 @@ use Rattle.model.specs.Format.{BatchFile}
 use Rattle.model.specs.Open.{openFile, openedAs, opened, blankSearch}
 use Rattle.model.specs.Run.{ran}
 use Rattle.model.specs.Text.{planLines, planText, batchText, written}
-use Rattle.model.specs.Answers.{plan, runTold, openTold, bestTold}
+use Rattle.model.specs.Answers.{plan, runTold, openTold, writeTold, bestTold}
 use Rattle.model.specs.Calls.{Call, call, after, granted}
 use Rattle.model.specs.Demands.{RunLeaves, WritingLeaves, PlanWith, Reached, demand3}
 use Rattle.model.proofs.OutcomeLaws.{refused}
 use Rattle.model.proofs.LeaveLaws.{demand-1 as model-1}
 use Rattle.model.proofs.OpenLaws.{demand-2 as model-2, demand-3 as model-3}
-use Rattle.planner.specs.Demands.{Called, none, more, Demand1, Demand2, LastCall, Demand3}
+use Rattle.planner.specs.Demands.{Called, none, more, Demand1, Demand2, LastCall, Demand3, Demands}
 
 -- the record after the calls is the definitions' one
 called-after : {s t : Search} {cs : List Call} → Called s cs t → t ≡ after s cs
@@ -52,8 +53,8 @@ demand-2 file o e =
       opens = subst (λ (o : Opened). (openTold (o .answer) ≡ accept tt) ↔ ((b : Batch) × BatchFile file b)) (sym e) (model-2 file .opens);
       yields = yields;
       written-back = λ b f cs s h buffer w buffer′ room m.
-          let z = m ∙ ap (λ (x : Search). written (batchText x) buffer) (at b f cs s h) ∙ model-2 file .written-back b f cs buffer room in
-          (ap (λ (x : Written × List ℕ). x .0) z, ap (λ (x : Written × List ℕ). x .1) z);
+          let z = m ∙ ap (λ (x : Search). written (batchText x) buffer) (at b f cs s h) in
+          subst (λ (x : Written × List ℕ). (writeTold (x .0) ≡ accept (length file)) × (x .1 ≡ file ++ drop (length file) buffer)) (sym z) (model-2 file .written-back b f cs buffer room);
       best-plans = λ b f cs s h. subst (λ (x : Search). (l : ℕ) → bestTold (x .best) ≡ some l → PlanWith b (x .starts) l) (sym (at b f cs s h)) (model-2 file .best-plans b f cs);
       answer-plans = λ b f cs s h c r list′ m l t told.
           let z = m ∙ ap (λ (x : Search). ran x (c .budget) (c .starts)) (at b f cs s h) in
@@ -84,11 +85,14 @@ of-fresh file b e =
       ends = m .1;
       only = m .2;
       bound = m .3;
-      reached = λ cs s k. subst (Reached b (m .0) (granted b (m .0) 0 cs)) (sym (called-after k)) (m .4 cs .reached);
-      last = λ before s k c r list′ z.
-          let y = z ∙ ap (λ (x : Search). ran x (c .budget) (c .starts)) (called-after k) in
-          subst (λ (x : Ran × List ℕ). LastCall b (m .0) before c (x .0) (x .1)) (sym y)
-          (record { refused = m .4 (before ++ (c ∷ [])) .refused before c refl; answered = m .4 (before ++ (c ∷ [])) .last before c refl });
+      lists = λ cs s h.
+          record {
+            reached = subst (Reached b (m .0) (granted b (m .0) 0 cs)) (sym (called-after h)) (m .4 cs .reached);
+            last = λ before c _ t k r list′ z.
+                let y = z ∙ ap (λ (x : Search). ran x (c .budget) (c .starts)) (called-after k) in
+                subst (λ (x : Ran × List ℕ). LastCall b (m .0) before c (x .0) (x .1)) (sym y)
+                (record { refused = m .4 (before ++ (c ∷ [])) .refused before c refl; answered = m .4 (before ++ (c ∷ [])) .last before c refl });
+          };
     }
 
 pub demand-3 : (file : List ℕ) (o : Opened) → o ≡ opened file → openTold (o .answer) ≡ accept tt → Demand3 o
@@ -96,3 +100,8 @@ unfolding opened
 demand-3 file o e h =
     let a = accepted (openFile file) (ap (λ (x : Opened). openTold (x .answer)) (sym e) ∙ h) in
     subst Demand3 (sym (e ∙ a .1)) (of-fresh file (a .0) (a .1))
+
+-- ---- all three
+
+pub demands : Demands
+demands = record { demand-1 = demand-1; demand-2 = demand-2; demand-3 = demand-3 }

@@ -12,14 +12,13 @@ use Rattle.model.specs.declared.Search.{Search}
 use Rattle.model.specs.declared.Opened.{Opened}
 use Rattle.model.specs.declared.Ran.{Ran}
 use Rattle.model.specs.declared.Written.{Written}
-use Rattle.model.specs.declared.Written.the-variants.{Bytes}
 use Rattle.model.specs.Common.{refuse, accept}
 use Rattle.model.specs.Search.{freshSearch, Ends, nodeLimit}
 use Rattle.model.specs.Format.{BatchFile}
 use Rattle.model.specs.Open.{openFile, opened, blankSearch}
 use Rattle.model.specs.Run.{ran}
 use Rattle.model.specs.Text.{planLines, planText, batchText, written}
-use Rattle.model.specs.Answers.{plan, runTold, openTold, bestTold}
+use Rattle.model.specs.Answers.{plan, runTold, openTold, writeTold, bestTold}
 use Rattle.model.specs.Calls.{Call, refuses, granted}
 use Rattle.model.specs.Demands.{RunLeaves, WritingLeaves, PlanWith, Reached, AnswerFor}
 
@@ -45,7 +44,7 @@ pub record Demand2 (file : List ℕ) (o : Opened) : Type 0 where
   pub written-back :
       (b : Batch) → BatchFile file b → (cs : List Call) (s : Search) → Called (o .search) cs s
       → (buffer : List ℕ) (w : Written) (buffer′ : List ℕ) → length file ≤ length buffer → (w, buffer′) ≡ written (batchText s) buffer
-      → (w ≡ Bytes (length file)) × (buffer′ ≡ file ++ drop (length file) buffer)
+      → (writeTold w ≡ accept (length file)) × (buffer′ ≡ file ++ drop (length file) buffer)
   pub best-plans : (b : Batch) → BatchFile file b → (cs : List Call) (s : Search) → Called (o .search) cs s → (l : ℕ) → bestTold (s .best) ≡ some l → PlanWith b (s .starts) l
   pub answer-plans :
       (b : Batch) → BatchFile file b → (cs : List Call) (s : Search) → Called (o .search) cs s
@@ -61,14 +60,24 @@ pub record LastCall (b : Batch) (N : ℕ) (before : List Call) (c : Call) (r : R
   pub refused : (refuses b N (granted b N 0 before) c ≡ true) ↔ ((k : ℕ) × (runTold (r .answer) ≡ refuse k))
   pub answered : refuses b N (granted b N 0 before) c ≡ false → AnswerFor b N (granted b N 0 (before ++ (c ∷ []))) (runTold (r .answer)) list′
 
+-- what holds after a list of calls on the fresh record, s being the record then: record, total, unfinished; and the last call, if there is one
+pub record AfterList (fresh : Search) (N : ℕ) (cs : List Call) (s : Search) : Type 0 where
+  pub reached : Reached (fresh .batch) N (granted (fresh .batch) N 0 cs) s
+  pub last :
+      (before : List Call) (c : Call) → cs ≡ before ++ (c ∷ []) → (t : Search) → Called fresh before t
+      → (r : Ran) (list′ : List ℕ) → (r, list′) ≡ ran t (c .budget) (c .starts) → LastCall (fresh .batch) N before c r list′
+
 pub record Demand3 (o : Opened) : Type 0 where
   pub N : ℕ
   pub ends : Ends (o .search .batch) N
   pub only : (M : ℕ) → Ends (o .search .batch) M → M ≡ N
   pub bound : N ≤ nodeLimit (o .search .batch)
-  -- after every list, the empty one too: record, total, unfinished
-  pub reached : (cs : List Call) (s : Search) → Called (o .search) cs s → Reached (o .search .batch) N (granted (o .search .batch) N 0 cs) s
-  -- and its last call, if there is one
-  pub last :
-      (before : List Call) (s : Search) → Called (o .search) before s
-      → (c : Call) (r : Ran) (list′ : List ℕ) → (r, list′) ≡ ran s (c .budget) (c .starts) → LastCall (o .search .batch) N before c r list′
+  -- every list, the empty one too
+  pub lists : (cs : List Call) (s : Search) → Called (o .search) cs s → AfterList (o .search) N cs s
+
+-- ---- all three: for every file, whatever is opened
+
+pub record Demands : Type 0 where
+  pub demand-1 : Demand1
+  pub demand-2 : (file : List ℕ) (o : Opened) → o ≡ opened file → Demand2 file o
+  pub demand-3 : (file : List ℕ) (o : Opened) → o ≡ opened file → openTold (o .answer) ≡ accept tt → Demand3 o

@@ -1,2 +1,3 @@
+-- What the search's contracts say of its arrays and of the place that it walks.
 pub mod Walk
 pub mod Kit

@@ -1,5 +1,5 @@
-// The limits of a batch's counts: n and m, then the ticks of the jobs below n. No job past n is read, and none before n is known to be
-// within its limits.
+// The limits of a batch's counts: n and m, then the ticks of the jobs below n. No job is read before n is known to be within its limits,
+// and none past n.
 use limits::counts_ok;
 use limits::ticks_ok;
 use model::Batch;

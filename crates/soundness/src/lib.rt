@@ -20,7 +20,8 @@ mod best;
 mod path;
 mod state;
 
-// What a run works on, if the record is sound; otherwise only that it is not. Turn k is 2 * clash + side, for k below depth.
+// What a run works on, if the record is sound. Otherwise `sound` is false, and the rest means nothing. Turn k is 2 * clash + side, for k
+// below depth.
 pub struct Examined {
     pub sound: bool,
     pub clashes: Clashes,

@@ -77,7 +77,7 @@ pub fn read_path(path: [Turn; 1024], count: usize) -> Route
     }
 }
 
-// No turn stands at depth or after it.
+// No turn stands at depth or after it. The loop does not stop at the first that does: without a way out it is compiled to whole vectors.
 pub fn rest_empty(path: [Turn; 1024], depth: usize) -> bool
     ensures { λ r. ⌜ r ≡ restEmpty path depth ⌝ }
 {

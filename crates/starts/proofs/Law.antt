@@ -18,8 +18,9 @@ use Rattle.model.specs.Starts.{entry, table, leastStarts}
 use Rattle.model.specs.Search.{noClash, sideOf, turned, inequalities, startsAt, empty}
 use Rattle.model.proofs.SeqLaws.{map-snoc, listed-snoc, listed-at, listed-length}
 use Rattle.clashes.specs.Code.{codeOf}
+use Rattle.clashes.specs.First.{Named}
 use Rattle.starts.specs.Code.{coded, placeCode, ClashFits}
-use Rattle.starts.specs.Table.{putIn, turnIn, withDelays, withTurns, emptyTable, DelaysFit, TurnFits, TurnsFit}
+use Rattle.starts.specs.Table.{putIn, turnIn, withDelays, withTurns, emptyTable, DelaysFit, TurnsFit}
 use Rattle.starts.specs.Least.{leastOf, leastAs, HoldsDelays, HoldsTurns}
 use Rattle.starts.proofs.CodeLaws.{coded-most, clash-i, clash-j, clash-d, side0-code, side0-limited, side1-code, side1-limited}
 use Rattle.starts.proofs.TableLaws.{turn-side0, turn-side1}
@@ -81,8 +82,8 @@ module _ (n : ℕ) (few : n ≤ 24) (cs : List Clash) (ts : List Turn) (clashes 
         jobs = λ k p. rw (code-is k p) (fit (getD cs (getD ts k empty .clash) noClash) (h .fits k p));
       }
     where
-      fit : (c : Clash) → ClashFits n c → TurnFits (codeOf c)
-      fit c f = record { i = omega (arith, clash-i n few c f, f .i); j = omega (arith, clash-j n few c f, f .j) }
+      fit : (c : Clash) → ClashFits n c → Named (codeOf c)
+      fit c f = record { first = omega (arith, clash-i n few c f, f .i); second = omega (arith, clash-j n few c f, f .j) }
 
   pub turns-tabled : (t : List (List ℕ)) (qs : List Delay) → Tabled n t qs → (k : ℕ) → k ≤ length ts → Tabled n (withTurns clashes turns t k) (qs ++ map (turned cs) (take k ts))
   unfolding withTurns turned

@@ -4,6 +4,7 @@ use mathlib.Core.List.{List, []}
 use lib.ListN.{getD, set, replicate}
 use lib.Dec.{eqb}
 use Rattle.model.specs.Common.{if_then_else_}
+use Rattle.clashes.specs.First.{Named}
 
 -- the place for the pair (from, to) keeps the larger of what it has and a code
 unfoldable pub putIn : List (List ℕ) → ℕ → ℕ → ℕ → List (List ℕ)
@@ -37,12 +38,7 @@ pub record DelaysFit (froms tos codes : List ℕ) (m : ℕ) : Type 0 where
   pub to : (k : ℕ) → k < m → getD tos k 0 < 24
   pub code : (k : ℕ) → k < m → getD codes k 0 ≤ 31000
 
--- a clash's code names jobs below 24
-pub record TurnFits (clash : ℕ) : Type 0 where
-  pub i : clash / 1024 < 24
-  pub j : clash / 32 % 32 < 24
-
--- the first depth turns name clashes below 1,024, whose codes name jobs below 24
+-- the first depth turns name clashes below 1,024, and the codes there name jobs
 pub record TurnsFit (clashes turns : List ℕ) (depth : ℕ) : Type 0 where
   pub clash : (k : ℕ) → k < depth → getD turns k 0 / 2 < 1024
-  pub jobs : (k : ℕ) → k < depth → TurnFits (getD clashes (getD turns k 0 / 2) 0)
+  pub jobs : (k : ℕ) → k < depth → Named (getD clashes (getD turns k 0 / 2) 0)

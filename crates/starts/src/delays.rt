@@ -2,7 +2,7 @@
 use delay_list::four_of;
 use limits::delay_ok;
 use model::Batch;
-use model::Delay;
+use model::NO_DELAY;
 use model::wide;
 ghost use mathlib.Core.Path.{_≡_};
 ghost use Prim.Native.Nat.{_≤_};
@@ -25,7 +25,7 @@ fn code_of(w: i16) -> u16
     lifted + 29000
 }
 
-// The delays read, if each of them passes; otherwise only that one does not.
+// The delays read, if each of them passes. Otherwise `passed` is false, and the arrays mean nothing.
 pub struct Reading {
     pub passed: bool,
     pub delays: Delays,
@@ -42,11 +42,7 @@ pub fn read_delays(batch: Batch) -> Reading
     let n = batch.n;
     let list = batch.delays;
     let m = wide(batch.m);
-    let mut four = [Delay {
-        from: 0,
-        to: 0,
-        weight: 0,
-    }; 4];
+    let mut four = [NO_DELAY; 4];
     let mut k: usize = 0;
     while k < m {
         four = four_of(list, four, k);

@@ -1,8 +1,10 @@
 // The working table: 24 rows of 24 weights, each place empty or the largest weight for that pair. Row i has what starts in job i.
+use model::wide;
 use model::wide16;
 ghost use mathlib.Core.Path.{_≡_};
 ghost use Prim.Native.Nat.{_≤_, _<_, _/_};
-ghost use Rattle.starts.specs.Table.{putIn, turnIn, withDelays, withTurns, DelaysFit, TurnFits, TurnsFit};
+ghost use Rattle.clashes.specs.First.{Named};
+ghost use Rattle.starts.specs.Table.{putIn, turnIn, withDelays, withTurns, DelaysFit, TurnsFit};
 
 // A place keeps the larger of what it has and a weight's code.
 fn put(table: &mut [[u16; 24]; 24], from: usize, to: usize, code: u16)
@@ -14,24 +16,19 @@ fn put(table: &mut [[u16; 24]; 24], from: usize, to: usize, code: u16)
     }
 }
 
-fn job(x: u8) -> usize
-    ensures { λ r. ⌜ r ≡ x ⌝ }
-{
-    x as usize
-}
-
-// The inequality of a turn on the clash with this code: t_j − t_i ≥ d + 1 on side 0, t_i − t_j ≥ 1 − d on side 1.
+// The inequality of a turn on the clash with this code: t_j − t_i ≥ d + 1 on side 0, t_i − t_j ≥ 1 − d on side 1. The code's last digit
+// is d + 15, and a weight has its code 30,000 above it: d + 1 is d + 15 + 29986, and 1 − d is 30016 − (d + 15).
 fn put_turn(table: &mut [[u16; 24]; 24], clash: u16, turn: u16)
-    requires { ⌜ TurnFits clash ⌝ }
+    requires { ⌜ Named clash ⌝ }
     ensures { λ _. ⌜ now (table .exit) ≡ turnIn (now (table .entry)) clash turn ⌝ }
 {
     let i = wide16(clash / 1024);
     let j = wide16(clash / 32 % 32);
-    let d = clash % 32;
+    let lifted = clash % 32;
     if turn % 2 == 0 {
-        put(table, i, j, d + 29986);
+        put(table, i, j, lifted + 29986);
     } else {
-        put(table, j, i, 30016 - d);
+        put(table, j, i, 30016 - lifted);
     }
 }
 
@@ -49,7 +46,7 @@ pub fn fill_delays(
 {
     let mut k: usize = 0;
     while k < m {
-        put(table, job(from[k]), job(to[k]), code[k]);
+        put(table, wide(from[k]), wide(to[k]), code[k]);
         k = k + 1;
     }
 }

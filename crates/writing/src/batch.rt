@@ -13,11 +13,11 @@ ghost use Rattle.writing.specs.Bounded.{Bounded};
 use crate::frame::put_delay;
 use crate::frame::put_header;
 use crate::frame::put_pair;
-use crate::number::wide;
 use delay_list::four_of;
 use model::Batch;
-use model::Delay;
 use model::Job;
+use model::NO_DELAY;
+use model::wide;
 
 // The whole batch text at the buffer's front.
 pub fn put_batch(buffer: &mut [u8], batch: Batch) -> usize
@@ -97,11 +97,7 @@ fn put_delays(buffer: &mut [u8], at: usize, batch: Batch) -> usize
     let list = batch.delays;
     let m = wide(batch.m);
     let mut next = at;
-    let mut four = [Delay {
-        from: 0,
-        to: 0,
-        weight: 0,
-    }; 4];
+    let mut four = [NO_DELAY; 4];
     let mut k: usize = 0;
     while k < m {
         four = four_of(list, four, k);

@@ -1,15 +1,7 @@
-// Numbers as the texts want them: a byte as a place, and a weight as the number of its two bytes. Signed numbers go no further
-// than this file.
+// A weight as the number of its two bytes. Signed numbers go no further than this file.
 ghost use mathlib.Core.Path.{_≡_};
 ghost use Prim.Native.Nat.{_<_};
 ghost use Rattle.model.specs.Format.{unsigned};
-
-// A byte as a place.
-pub fn wide(x: u8) -> usize
-    ensures { λ r. ⌜ (r ≡ x) × (r < 256) ⌝ }
-{
-    x as usize
-}
 
 // A weight in two's complement.
 pub fn encode(w: i16) -> u16

@@ -7,7 +7,7 @@ ghost use Rattle.lines.specs.Write.{overwritten};
 ghost use Rattle.writing.specs.Lines.{foundLines, startLines};
 use crate::frame::put_head;
 use crate::frame::put_start;
-use crate::number::wide;
+use model::wide;
 
 // The whole text at the buffer's front.
 pub fn put_plan(buffer: &mut [u8], n: u8, latency: u16, starts: [u16; 24], total: u32) -> usize

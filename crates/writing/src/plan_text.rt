@@ -6,11 +6,11 @@ ghost use Rattle.model.specs.Limits.{mostJobs};
 ghost use Rattle.model.specs.Text.{planLines, planText, written};
 ghost use Rattle.writing.specs.Lines.{foundLines, noPlanLine};
 use crate::frame::put_no_plan;
-use crate::number::wide;
 use crate::plan::put_plan;
 use model::Best;
 use model::Search;
 use model::Written;
+use model::wide;
 
 // The plan text of a record.
 pub fn write_plan(search: Search, buffer: &mut [u8]) -> Written

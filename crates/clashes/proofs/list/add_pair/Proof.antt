@@ -66,7 +66,7 @@ loop-again c =
 returns : tie.Need-returns Inv-loop μ-loop
 returns c =
     let i = c .before .loop .inv .1 in
-    pair-jobs _ _ _ _ _ _ _ (c .before .before .before .before .before .wide .ensures) (c .before .before .before .before .wide2 .ensures) (pair-last _ _ _ _ _ _ (i .1) (omega (arith, i .0, c .loop-test .left)))
+    pair-jobs _ _ _ _ _ _ _ (c .before .before .before .before .before .wide .ensures .0) (c .before .before .before .before .wide2 .ensures .0) (pair-last _ _ _ _ _ _ (i .1) (omega (arith, i .0, c .loop-test .left)))
 
 pub add-pair-spec : {M : Type 1} → statement M
 add-pair-spec =

@@ -7,8 +7,8 @@ use Rattle.opening.proofs.frame.frame_wide.Tie as tie
 frame-byte-requires : tie.Need-frame-byte-requires
 frame-byte-requires c κs = search needs
 
-wide16-requires : tie.Need-wide16-requires
-wide16-requires c κs = search needs
+word-requires : tie.Need-word-requires
+word-requires c κs = search needs
 
 add-frame-byte : tie.Need-add-frame-byte
 add-frame-byte c = search needs
@@ -16,8 +16,8 @@ add-frame-byte c = search needs
 frame-byte-requires-2 : tie.Need-frame-byte-requires-2
 frame-byte-requires-2 c κs = search needs
 
-wide16-requires-2 : tie.Need-wide16-requires-2
-wide16-requires-2 c κs = search needs
+word-requires-2 : tie.Need-word-requires-2
+word-requires-2 c κs = search needs
 
 mul-result : tie.Need-mul-result
 mul-result c = search needs
@@ -27,7 +27,7 @@ add-result c = search needs
 
 returns : tie.Need-returns
 returns c =
-    wide-is _ _ _ _ _ _ (c .before .before .wide16 .ensures .0) (c .before .before .before .frame-byte .ensures) (c .wide162 .ensures .0)
+    wide-is _ _ _ _ _ _ (c .before .before .word .ensures .0) (c .before .before .before .frame-byte .ensures) (c .word2 .ensures .0)
     (c .before .frame-byte2 .ensures)
 
 pub frame-wide-spec : {M : Type 1} → statement M
@@ -35,10 +35,10 @@ frame-wide-spec =
     tie.close
     (tie.spec
     frame-byte-requires
-    wide16-requires
+    word-requires
     add-frame-byte
     frame-byte-requires-2
-    wide16-requires-2
+    word-requires-2
     mul-result
     add-result
     returns)

@@ -36,7 +36,7 @@ returns-3 c =
     let w = g .before .before in
     let b = w .before .before .before in
     let e = b .before .before in
-    told-plan _ _ _ _ _ _ _ (w .wide .result) _ (not-false (e .before .before .before .args .search .ended) (e .if1 .left)) (b .best .given .1) (w .wide .ensures) (g .give-starts .ensures)
+    told-plan _ _ _ _ _ _ _ (w .wide .result) _ (not-false (e .before .before .before .args .search .ended) (e .if1 .left)) (b .best .given .1) (w .wide .ensures .0) (g .give-starts .ensures)
 
 pub answered-spec : {M : Type 1} → statement M
 answered-spec =

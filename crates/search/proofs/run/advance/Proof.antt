@@ -21,7 +21,7 @@ visit-nodes-requires c κs =
     let w = c .before .before .before .before .before .before in
     let a = w .before .before .before .before .before .before .before .before .before .before .before .before in
     let l : length (a .args .examined .turns) ≡ 1024 = simp length-map at (a .good .1 .0 .1 .1 .1 .1 .1 .1 .0 .1 .0 .1) in
-    let f = first-works (a .args .search) (a .args .examined) (a .pre .0 .0) (a .pre .0 .1) (a .pre .1 .1) l _ _ (w .before .wide .ensures) (w .wide2 .ensures) in
+    let f = first-works (a .args .search) (a .args .examined) (a .pre .0 .0) (a .pre .0 .1) (a .pre .1 .1) l _ _ (w .before .wide .ensures .0) (w .wide2 .ensures .0) in
     (a .pre .1 .0, (_, f))
 
 rebuilt-requires : tie.Need-rebuilt-requires
@@ -29,7 +29,7 @@ rebuilt-requires c κs =
     let w = c .before .before .before .before .before .before .before .before in
     let a = w .before .before .before .before .before .before .before .before .before .before .before .before in
     let l : length (a .args .examined .turns) ≡ 1024 = simp length-map at (a .good .1 .0 .1 .1 .1 .1 .1 .1 .0 .1 .0 .1) in
-    let f = first-works (a .args .search) (a .args .examined) (a .pre .0 .0) (a .pre .0 .1) (a .pre .1 .1) l _ _ (w .before .wide .ensures) (w .wide2 .ensures) in
+    let f = first-works (a .args .search) (a .args .examined) (a .pre .0 .0) (a .pre .0 .1) (a .pre .1 .1) l _ _ (w .before .wide .ensures .0) (w .wide2 .ensures .0) in
     c .before .visit-nodes .ensures _ f .1 .deep
 
 returns : tie.Need-returns
@@ -38,7 +38,7 @@ returns c =
     let w = v .before .before .before .before .before .before .before in
     let a = w .before .before .before .before .before .before .before .before .before .before .before .before in
     let l : length (a .args .examined .turns) ≡ 1024 = simp length-map at (a .good .1 .0 .1 .1 .1 .1 .1 .1 .0 .1 .0 .1) in
-    let f = first-works (a .args .search) (a .args .examined) (a .pre .0 .0) (a .pre .0 .1) (a .pre .1 .1) l _ _ (w .before .wide .ensures) (w .wide2 .ensures) in
+    let f = first-works (a .args .search) (a .args .examined) (a .pre .0 .0) (a .pre .0 .1) (a .pre .1 .1) l _ _ (w .before .wide .ensures .0) (w .wide2 .ensures .0) in
     let k : length (a .args .search .path) ≡ 1024 = simp length-map at (a .good .0 .1 .1 .1 .0 .1 .0 .1) in
     advanced (a .args .search) (a .args .examined) (a .pre .0 .0) (a .pre .0 .1) (a .pre .1 .1) l _ k _ (c .rebuilt .ensures ∙ v .visit-nodes .ensures _ f .0)
 

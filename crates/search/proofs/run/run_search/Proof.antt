@@ -48,7 +48,7 @@ returns-3 c =
     let x = w .before .before .before in
     let a = x .before .before .before .args in
     left-as (a .search) (a .budget) 13 (a .list .now) _ (c .refused3 .ensures)
-    (ran-13 (a .search) (a .budget) (a .list .now) (x .before .if1 .left) (sym (x .examine .ensures .told) ∙ not-false (x .examine .result .sound) (w .before .if2 .left)) (omega (arith, w .wide .ensures, c .before .if3 .taken)))
+    (ran-13 (a .search) (a .budget) (a .list .now) (x .before .if1 .left) (sym (x .examine .ensures .told) ∙ not-false (x .examine .result .sound) (w .before .if2 .left)) (omega (arith, w .wide .ensures .0, c .before .if3 .taken)))
 
 overdrawn-requires : tie.Need-overdrawn-requires
 overdrawn-requires c κs = search needs
@@ -63,7 +63,7 @@ returns-4 c =
     let x = w .before .before .before in
     let a = x .before .before .before .args in
     left-as (a .search) (a .budget) 14 (a .list .now) _ (c .refused4 .ensures)
-    (ran-14 (a .search) (a .budget) (a .list .now) (x .before .if1 .left) (sym (x .examine .ensures .told) ∙ not-false (x .examine .result .sound) (w .before .if2 .left)) (omega (arith, w .wide .ensures, o .before .if3 .left)) _
+    (ran-14 (a .search) (a .budget) (a .list .now) (x .before .if1 .left) (sym (x .examine .ensures .told) ∙ not-false (x .examine .result .sound) (w .before .if2 .left)) (omega (arith, w .wide .ensures .0, o .before .if3 .left)) _
     (o .overdrawn .ensures) (c .before .if4 .taken))
 
 after-run-requires : tie.Need-after-run-requires
@@ -80,7 +80,7 @@ answered-requires c κs =
     let w = r .before .before .before .before in
     let x = w .before .before .before in
     let n = jobs-kept _ _ _ (r .after-run .ensures) in
-    (omega (arith, n, sound-jobs _ (sym (x .examine .ensures .told) ∙ not-false (x .examine .result .sound) (w .before .if2 .left))), omega (arith, n, w .wide .ensures, r .before .before .before .if3 .left))
+    (omega (arith, n, sound-jobs _ (sym (x .examine .ensures .told) ∙ not-false (x .examine .result .sound) (w .before .if2 .left))), omega (arith, n, w .wide .ensures .0, r .before .before .before .if3 .left))
 
 same-length : tie.Need-same-length
 same-length c = search needs
@@ -93,7 +93,7 @@ returns-5 c =
     let w = o .before .before in
     let x = w .before .before .before in
     let a = x .before .before .before .args in
-    ran-on (a .search) (a .budget) (a .list .now) _ _ _ (x .before .if1 .left) (sym (x .examine .ensures .told) ∙ not-false (x .examine .result .sound) (w .before .if2 .left)) (omega (arith, w .wide .ensures, o .before .if3 .left)) _
+    ran-on (a .search) (a .budget) (a .list .now) _ _ _ (x .before .if1 .left) (sym (x .examine .ensures .told) ∙ not-false (x .examine .result .sound) (w .before .if2 .left)) (omega (arith, w .wide .ensures .0, o .before .if3 .left)) _
     (o .overdrawn .ensures) (r .before .if4 .left) (r .after-run .ensures) (q .answered .ensures)
 
 pub run-search-spec : {M : Type 1} → statement M

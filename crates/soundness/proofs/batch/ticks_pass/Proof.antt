@@ -19,7 +19,7 @@ wide-requires : tie.Need-wide-requires Inv-loop μ-loop
 wide-requires c κs = search needs
 
 loop-holds : tie.Need-loop-holds Inv-loop μ-loop
-loop-holds c = (c .wide .ensures, ticks-start _ _ (c .wide .ensures))
+loop-holds c = (c .wide .ensures .0, ticks-start _ _ (c .wide .ensures .0))
 
 mul-job : tie.Need-mul-job Inv-loop μ-loop
 mul-job c = search needs

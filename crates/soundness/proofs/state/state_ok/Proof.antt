@@ -22,7 +22,7 @@ best-ok-requires c κs = search needs
 returns-3 : tie.Need-returns-3
 returns-3 c =
     let low = c .before .before .before .before in
-    state-best _ _ (low .before .before .before .path-ok .ensures) (low .before .before .if1 .left) _ _ (low .if2 .left) (c .before .wide .ensures)
+    state-best _ _ (low .before .before .before .path-ok .ensures) (low .before .before .if1 .left) _ _ (low .if2 .left) (c .before .wide .ensures .0)
     (c .best-ok .ensures)
 
 pub state-ok-spec : {M : Type 1} → statement M

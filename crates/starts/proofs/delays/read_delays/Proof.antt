@@ -35,7 +35,7 @@ returns : tie.Need-returns Inv-loop μ-loop
 returns c =
     let read = c .before .before .before in
     let turn = read .before .before in
-    read-not _ _ _ _ _ (turn .before .wide .ensures)
+    read-not _ _ _ _ _ (turn .before .wide .ensures .0)
     (read-failed _ _ _ _ _ _ _ _ (turn .loop .inv) (read .before .loop-test .taken) _ _ (among _ _ _ (read .four-of .ensures) _) (c .before .delay-ok .ensures) (c .if1 .taken))
 
 array-write-from : tie.Need-array-write-from Inv-loop μ-loop
@@ -70,7 +70,7 @@ loop-again c =
     _ (read .four-of .ensures) _ (told-coded _ _ (record { sfits = c .before .struct-told .given .1 .1 .0 .1 }) (c .code-of .ensures))
 
 returns-2 : tie.Need-returns-2 Inv-loop μ-loop
-returns-2 c = read-all _ _ _ _ _ _ _ (c .before .before .wide .ensures) (c .before .loop .inv) (c .loop-test .left)
+returns-2 c = read-all _ _ _ _ _ _ _ (c .before .before .wide .ensures .0) (c .before .loop .inv) (c .loop-test .left)
 
 pub read-delays-spec : {M : Type 1} → statement M
 read-delays-spec =

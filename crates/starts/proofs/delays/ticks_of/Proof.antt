@@ -40,7 +40,7 @@ loop-again : tie.Need-loop-again Inv-loop μ-loop
 loop-again c = (search needs, filled-more _ 24 _ _ _ (c .before .before .loop .inv .1) (ticks-told (c .before .before .before .before .args .t1) _))
 
 returns : tie.Need-returns Inv-loop μ-loop
-returns c = ticks-read _ _ _ _ (c .before .before .wide .ensures) (c .before .loop .inv .0) (c .loop-test .left) (c .before .loop .inv .1)
+returns c = ticks-read _ _ _ _ (c .before .before .wide .ensures .0) (c .before .loop .inv .0) (c .loop-test .left) (c .before .loop .inv .1)
 
 pub ticks-of-spec : {M : Type 1} → statement M
 ticks-of-spec =

@@ -15,14 +15,14 @@ wide-requires-2 c κs = search needs
 least-starts-requires : tie.Need-least-starts-requires
 least-starts-requires c κs =
     let pre = c .before .before .before .before .before .before .before .before .before .before .pre in (
-      (omega (arith, c .before .before .before .before .before .before .wide .ensures, pre .0 .most), (omega (arith, c .before .before .before .before .before .wide2 .ensures, pre .0 .few), omega arith)),
-      (met-fits _ (pre .0) _ (pre .1) _ (c .before .before .before .before .before .wide2 .ensures), no-turns _ _),
+      (omega (arith, c .before .before .before .before .before .before .wide .ensures .0, pre .0 .most), (omega (arith, c .before .before .before .before .before .wide2 .ensures .0, pre .0 .few), omega arith)),
+      (met-fits _ (pre .0) _ (pre .1) _ (c .before .before .before .before .before .wide2 .ensures .0), no-turns _ _),
     )
 
 returns : tie.Need-returns
 returns c =
     let pre = c .before .before .before .before .before .before .before .before .before .before .before .pre in
-    met-is _ (pre .0) _ (pre .1) _ (c .before .before .before .before .before .before .wide2 .ensures) _ (c .before .before .before .before .before .before .before .wide .ensures) _ _ _ (c .least-starts .ensures)
+    met-is _ (pre .0) _ (pre .1) _ (c .before .before .before .before .before .before .wide2 .ensures .0) _ (c .before .before .before .before .before .before .before .wide .ensures .0) _ _ _ (c .least-starts .ensures)
 
 pub read-delays-met-spec : {M : Type 1} → statement M
 read-delays-met-spec =

@@ -17,17 +17,17 @@ abbrev μ-loop : tie.MeasureT-loop
 loop-holds : tie.Need-loop-holds Inv-loop μ-loop
 loop-holds c = (search needs, delays-none _ _ _ _)
 
-element-copy-out-job : tie.Need-element-copy-out-job Inv-loop μ-loop
-element-copy-out-job c = search needs
+element-copy-out-wide : tie.Need-element-copy-out-wide Inv-loop μ-loop
+element-copy-out-wide c = search needs
 
-job-requires : tie.Need-job-requires Inv-loop μ-loop
-job-requires c κs = search needs
+wide-requires : tie.Need-wide-requires Inv-loop μ-loop
+wide-requires c κs = search needs
 
-element-copy-out-job-2 : tie.Need-element-copy-out-job-2 Inv-loop μ-loop
-element-copy-out-job-2 c = search needs
+element-copy-out-wide-2 : tie.Need-element-copy-out-wide-2 Inv-loop μ-loop
+element-copy-out-wide-2 c = search needs
 
-job-requires-2 : tie.Need-job-requires-2 Inv-loop μ-loop
-job-requires-2 c κs = search needs
+wide-requires-2 : tie.Need-wide-requires-2 Inv-loop μ-loop
+wide-requires-2 c κs = search needs
 
 mul-put : tie.Need-mul-put Inv-loop μ-loop
 mul-put c = search needs
@@ -37,8 +37,8 @@ element-copy-out-put c = search needs
 
 put-requires : tie.Need-put-requires Inv-loop μ-loop
 put-requires c κs = (
-  omega (arith, c .before .before .before .job .ensures, c .before .before .before .before .before .before .before .before .pre .1 .from (c .before .before .before .before .before .before .before .loop .k) (c .before .before .before .before .before .before .loop-test .taken)),
-  omega (arith, c .before .job2 .ensures, c .before .before .before .before .before .before .before .before .pre .1 .to (c .before .before .before .before .before .before .before .loop .k) (c .before .before .before .before .before .before .loop-test .taken)),
+  omega (arith, c .before .before .before .wide .ensures .0, c .before .before .before .before .before .before .before .before .pre .1 .from (c .before .before .before .before .before .before .before .loop .k) (c .before .before .before .before .before .before .loop-test .taken)),
+  omega (arith, c .before .wide2 .ensures .0, c .before .before .before .before .before .before .before .before .pre .1 .to (c .before .before .before .before .before .before .before .loop .k) (c .before .before .before .before .before .before .loop-test .taken)),
 )
 
 add-k : tie.Need-add-k Inv-loop μ-loop
@@ -50,7 +50,7 @@ loop-less c = search needs
 loop-again : tie.Need-loop-again Inv-loop μ-loop
 loop-again c = (
   search needs,
-  delays-more _ _ _ _ _ _ _ _ _ _ (c .before .before .before .before .before .before .before .before .loop .inv .1) (c .before .before .before .before .job .ensures) (c .before .before .job2 .ensures) refl (c .put .ensures),
+  delays-more _ _ _ _ _ _ _ _ _ _ (c .before .before .before .before .before .before .before .before .loop .inv .1) (c .before .before .before .before .wide .ensures .0) (c .before .before .wide2 .ensures .0) refl (c .put .ensures),
 )
 
 returns : tie.Need-returns Inv-loop μ-loop
@@ -63,10 +63,10 @@ fill-delays-spec =
     Inv-loop
     μ-loop
     loop-holds
-    element-copy-out-job
-    job-requires
-    element-copy-out-job-2
-    job-requires-2
+    element-copy-out-wide
+    wide-requires
+    element-copy-out-wide-2
+    wide-requires-2
     mul-put
     element-copy-out-put
     put-requires
