@@ -71,7 +71,10 @@ typedef struct planner_turn {
 #define PLANNER_EMPTY_CLASH 65535
 #define PLANNER_EMPTY_SIDE 0
 
-/* A search. Plain data: it may be copied, kept, and read at any time between calls. */
+/* A search. Plain data: it may be copied, kept, and read at any time between calls.
+ * The planner writes found and ended as 0 or 1, and latency as 0 while found is 0. Any other found or ended counts as 1, and with found 0 any
+ * other latency counts as 0: a run that is answered, also one that visits no node, brings these fields to the planner's own values.
+ */
 typedef struct planner_record {
     uint32_t total;                     /* nodes visited so far */
     uint16_t latency;                   /* the latency of the best plan so far; 0 where there is none */
@@ -84,6 +87,10 @@ typedef struct planner_record {
 
 /* ---- the answers */
 
+/* That a plan is the shortest valid one, and that no valid plan exists, holds for a record that planner_open made and that nothing but
+ * planner_run has changed since. A sound record from elsewhere is answered as it stands: its best is taken for a plan and its path for the part
+ * of the search that is done.
+ */
 #define PLANNER_SPENT 0      /* the budget is used and the search goes on: run again */
 #define PLANNER_PLAN 1       /* the search has ended with the shortest valid plan */
 #define PLANNER_NO_PLAN 2    /* the search has ended: no valid plan exists */

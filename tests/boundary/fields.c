@@ -83,6 +83,7 @@ static void check_best(void) {
     record = ended();
     record.found = 0;
     same_answer(run(&record, 7), PLANNER_NO_PLAN, 0, 0, 0x01020304);
+    same(record.latency, 0);
     record = ended();
     record.ended = 0;
     same_answer(run(&record, 0), PLANNER_SPENT, 0, 0, 0x01020304);

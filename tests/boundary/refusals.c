@@ -28,12 +28,14 @@ static void check_clashes(void) {
     planner_record record;
     uint8_t file[ROOM];
     int i, a;
+    memset(&record, 0xA5, sizeof record);
     begin("9: 9 jobs of 16 masks 0001, 1,116 clashes");
     for (i = 0; i < 9; i++)
         for (a = 0; a < 16; a++)
             batch.masks[i][a] = 1;
     same(PLANNER_REFUSED_CLASHES, 9);
     same(planner_open(file, file_of(&batch, file), &record), PLANNER_REFUSED_CLASHES);
+    same_fill(&record, 0xA5, sizeof record);
 }
 
 /* A refused run leaves every byte of the record and of the starts, padding included. */

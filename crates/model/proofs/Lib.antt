@@ -4,6 +4,7 @@ pub mod ListLaws
 pub mod SeqLaws
 pub mod AllLaws
 pub mod OutcomeLaws
+pub mod RefusalLaws
 pub mod PlusLaws
 pub mod DistanceLaws
 pub mod SideLaws

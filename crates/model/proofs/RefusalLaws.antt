@@ -1,0 +1,142 @@
+-- The numbers that each call refuses with: opening 1 to 10, a run 11 to 14, the plan text 12, 15 or 16, the batch text 12 or 16. A chain of steps
+-- refuses only with numbers that its steps refuse with.
+use Prim.Native.Nat.{ℕ, zero, suc, _≤_}
+use mathlib.Core.Path.{_≡_, refl, sym, subst}
+use mathlib.Core.Logic.{_⊎_, inl, inr}
+use mathlib.Core.Bool.{Bool, true, false}
+use mathlib.Core.Option.{Option, none, some}
+use mathlib.Core.List.{List}
+use native.Mathlib.Omega.{arith}
+use Rattle.model.specs.declared.Search.{Search}
+use Rattle.model.specs.Common.{Outcome, refuse, accept, _>>=_, require, given}
+use Rattle.model.specs.Line.{readLine}
+use Rattle.model.specs.Open.{header, job, delay, due, readOne, readAll, readFile, openFile}
+use Rattle.model.specs.Run.{runRefusal}
+use Rattle.model.specs.Text.{planText, batchText, fitting}
+use Rattle.model.proofs.OutcomeLaws.{refused, refuse-as}
+
+-- every refusal of this answer has a number that P holds of
+pub record Only {A : Type 0} (P : ℕ → Type 0) (o : Outcome A) : Type 0 where
+  pub number : (k : ℕ) → o ≡ refuse k → P k
+
+-- ---- the steps
+
+module _ {P : ℕ → Type 0} where
+  only-accept : {A : Type 0} (a : A) → Only P (accept a)
+  only-accept a = record { number = λ k e. refused (sym e) }
+
+  only-refuse : {A : Type 0} {j : ℕ} → P j → Only {A = A} P (refuse j)
+  only-refuse {j} p = record { number = λ k e. let z : j ≡ k = cc in subst P z p }
+
+  only-bind : {A B : Type 0} {m : Outcome A} (f : A → Outcome B) → Only P m → ((a : A) → Only P (f a)) → Only P (m >>= f)
+  unfolding _>>=_
+  only-bind {m = refuse j} f h g = record { number = λ k e. h .number k (refuse-as e) }
+  only-bind {m = accept a} f h g = g a
+
+  only-require : (j : ℕ) (t : Bool) → P j → Only P (require j t)
+  unfolding require
+  only-require j true p = only-accept tt
+  only-require j false p = only-refuse p
+
+  only-given : {A : Type 0} (j : ℕ) (o : Option A) → P j → Only P (given j o)
+  unfolding given
+  only-given j none p = only-refuse p
+  only-given j (some a) p = only-accept a
+
+  -- a test and what follows it
+  only-after : {B : Type 0} (j : ℕ) (t : Bool) (f : Unit {0} → Outcome B) → P j → Only P (f tt) → Only P (require j t >>= f)
+  only-after j t f p g = only-bind f (only-require j t p) (λ u. g)
+
+-- ---- opening
+
+abbrev pub OpenNumber : ℕ → Type 0
+OpenNumber k = (1 ≤ k) × (k ≤ 10)
+
+only-header : (f : List ℕ) → Only OpenNumber (header f)
+unfolding header
+only-header f =
+    only-after 2 _ _ (omega arith, omega arith) (only-after 3 _ _ (omega arith, omega arith) (only-after 4 _ _ (omega arith, omega arith) (only-accept _)))
+
+only-job : (f : List ℕ) → Only OpenNumber (job f)
+unfolding job
+only-job f = only-after 2 _ _ (omega arith, omega arith) (only-after 4 _ _ (omega arith, omega arith) (only-accept _))
+
+only-delay : (n : ℕ) (f : List ℕ) → Only OpenNumber (delay n f)
+unfolding delay
+only-delay n f =
+    only-after 2 _ _ (omega arith, omega arith) (only-after 5 _ _ (omega arith, omega arith) (only-after 6 _ _ (omega arith, omega arith) (only-accept _)))
+
+only-due : (file : List ℕ) → Only OpenNumber (due file)
+unfolding due
+only-due file = only-after 7 _ _ (omega arith, omega arith) (only-given 1 (readLine file) (omega arith, omega arith))
+
+module _ {A : Type 0} (frame : List ℕ → Outcome A) (h : (f : List ℕ) → Only OpenNumber (frame f)) where
+  only-one : (file : List ℕ) → Only OpenNumber (readOne frame file)
+  unfolding readOne
+  only-one file = only-bind _ (only-due file) (λ (f, rest). only-bind _ (h f) (λ x. only-accept _))
+
+  only-all : (k : ℕ) (file : List ℕ) → Only OpenNumber (readAll frame k file)
+  unfolding readAll
+  only-all zero file = only-accept _
+  only-all (suc k) file = only-bind _ (only-one file) (λ (x, rest). only-bind _ (only-all k rest) (λ (xs, end). only-accept _))
+
+only-file : (file : List ℕ) → Only OpenNumber (readFile file)
+unfolding readFile
+only-file file =
+    only-bind _ (only-one header only-header file) (λ (counts, afterHeader).
+    only-bind _ (only-all job only-job (counts .0) afterHeader) (λ (jobs, afterJobs).
+    only-bind _ (only-all (delay (counts .0)) (only-delay (counts .0)) (counts .1) afterJobs) (λ (delays, end).
+    only-after 8 _ _ (omega arith, omega arith) (only-accept _))))
+
+only-open : (file : List ℕ) → Only OpenNumber (openFile file)
+unfolding openFile
+only-open file =
+    only-bind _ (only-file file) (λ b. only-after 9 _ _ (omega arith, omega arith) (only-after 10 _ _ (omega arith, omega arith) (only-accept b)))
+
+-- opening refuses with 1 to 10
+pub open-refusals : (file : List ℕ) (k : ℕ) → openFile file ≡ refuse k → OpenNumber k
+open-refusals file = only-open file .number
+
+-- ---- running
+
+abbrev pub RunNumber : ℕ → Type 0
+RunNumber k = (11 ≤ k) × (k ≤ 14)
+
+only-run : (s : Search) (budget places : ℕ) → Only RunNumber (runRefusal s budget places)
+unfolding runRefusal
+only-run s budget places =
+    only-after 11 _ _ (omega arith, omega arith) (only-after 12 _ _ (omega arith, omega arith)
+    (only-after 13 _ _ (omega arith, omega arith) (only-require 14 _ (omega arith, omega arith))))
+
+-- a run refuses with 11 to 14
+pub run-refusals : (s : Search) (budget places k : ℕ) → runRefusal s budget places ≡ refuse k → RunNumber k
+run-refusals s budget places = only-run s budget places .number
+
+-- ---- writing
+
+abbrev pub PlanNumber : ℕ → Type 0
+PlanNumber k = (k ≡ 12) ⊎ ((k ≡ 15) ⊎ (k ≡ 16))
+
+abbrev pub BatchNumber : ℕ → Type 0
+BatchNumber k = (k ≡ 12) ⊎ (k ≡ 16)
+
+-- into a buffer a text is refused as it is, or with 16
+only-fitting : {P : ℕ → Type 0} (text : Outcome (List ℕ)) (room : ℕ) → P 16 → Only P text → Only P (fitting text room)
+unfolding fitting
+only-fitting text room p h = only-bind _ h (λ t. only-after 16 _ _ p (only-accept t))
+
+only-plan : (s : Search) → Only PlanNumber (planText s)
+unfolding planText
+only-plan s = only-after 12 _ _ (inl refl) (only-after 15 _ _ (inr (inl refl)) (only-accept _))
+
+only-batch : (s : Search) → Only BatchNumber (batchText s)
+unfolding batchText
+only-batch s = only-after 12 _ _ (inl refl) (only-accept _)
+
+-- writing a plan text refuses with 12, 15 or 16
+pub plan-refusals : (s : Search) (room k : ℕ) → fitting (planText s) room ≡ refuse k → PlanNumber k
+plan-refusals s room = only-fitting (planText s) room (inr (inr refl)) (only-plan s) .number
+
+-- writing a batch text refuses with 12 or 16
+pub batch-refusals : (s : Search) (room k : ℕ) → fitting (batchText s) room ≡ refuse k → BatchNumber k
+batch-refusals s room = only-fitting (batchText s) room (inr refl) (only-batch s) .number
