@@ -25,3 +25,4 @@ pub mod FrameLaws
 pub mod FileLaws
 pub mod LeaveLaws
 pub mod OpenLaws
+pub mod ProgramLaws
