@@ -37,7 +37,7 @@ returns : tie.Need-returns Inv-loop μ-loop
 returns c =
     let ran = c .before .before .before .before .before .before .before .before in
     let turn = ran .before .before in
-    is-refused _ _ _ (turn .loop .inv .1 .1) _ _ (turn .loop .inv .1 .0) (ran .before .loop-test .taken) _ (ran .run-once .ensures) _ (c .before .before .before .before .before .answer .given .1) _ _ (c .before .before .refusal .ensures)
+    is-refused _ _ _ (turn .loop .inv .1 .1) _ _ (turn .loop .inv .1 .0) (omega arith) _ (ran .run-once .ensures) _ (c .before .before .before .before .before .answer .given .1) _ _ (c .before .before .refusal .ensures)
 
 plan-lines-requires : tie.Need-plan-lines-requires Inv-loop μ-loop
 plan-lines-requires c κs = omega (arith, ap length (c .before .before .before .before .before .loop .inv .1 .0), c .before .before .before .before .before .before .before .pre)
@@ -49,7 +49,7 @@ returns-2 : tie.Need-returns-2 Inv-loop μ-loop
 returns-2 c =
     let ran = c .before .before .before .before .before .before in
     let turn = ran .before .before in
-    is-ended _ _ _ (turn .loop .inv .1 .1) _ _ (turn .loop .inv .1 .0) (ran .before .loop-test .taken) _ (ran .run-once .ensures) (c .before .before .before .before .match .keys3) _ _ (c .before .before .plan-lines .ensures)
+    is-ended _ _ _ (turn .loop .inv .1 .1) _ _ (turn .loop .inv .1 .0) (omega arith) _ (ran .run-once .ensures) (c .before .before .before .before .match .keys3) _ _ (c .before .before .plan-lines .ensures)
 
 add-runs : tie.Need-add-runs Inv-loop μ-loop
 add-runs c = search needs
@@ -64,7 +64,7 @@ loop-again c =
       search needs,
       (
         turn .loop .inv .1 .0,
-        goes-on _ _ _ (turn .loop .inv .1 .1) _ _ (turn .loop .inv .1 .0) (ran .before .loop-test .taken) _ (ran .run-once .ensures) _ (c .enum-told .given .1),
+        goes-on _ _ _ (turn .loop .inv .1 .1) _ _ (turn .loop .inv .1 .0) (omega arith) _ (ran .run-once .ensures) _ (c .enum-told .given .1),
       ),
     )
 
@@ -77,7 +77,7 @@ same-length-3 c = search needs
 returns-3 : tie.Need-returns-3 Inv-loop μ-loop
 returns-3 c =
     let turn = c .before .before .before .before .before in
-    no-runs _ _ _ (turn .loop .inv .1 .1) _ _ (turn .loop .inv .1 .0) (c .before .before .before .before .loop-test .left) _ _ (c .before .before .refusal2 .ensures)
+    no-runs _ _ _ (turn .loop .inv .1 .1) _ _ (turn .loop .inv .1 .0) (omega arith) _ _ (c .before .before .refusal2 .ensures)
 
 pub searched-spec : {M : Type 1} → statement M
 searched-spec =
