@@ -25,7 +25,7 @@ use Rattle.model.specs.Sound.{sound}
 use Rattle.model.specs.Run.{runRefusal, answerOf, startsAfter, answered, ranAs, ran}
 use Rattle.model.specs.Answers.{Verdict, spent, plan, noPlan, runTold, totalTold}
 use Rattle.model.specs.Calls.{Call, call, after, refuses, granted}
-use Rattle.model.specs.Demands.{Reached, AnswerFor, Demand3}
+use Rattle.model.specs.Demands.{Reached, AnswerFor}
 use Rattle.model.proofs.BoolLaws.{apart}
 use Rattle.model.proofs.NodeLaws.{BestLe}
 use Rattle.model.proofs.GoodLaws.{ValidBest}
@@ -291,17 +291,19 @@ module _ (b : Batch) (passes : Passes b) (n : ℕ) (end : End b (fits b passes) 
         let r = after-at 0 cs (ap sound at-zero ∙ fresh-sound) in
         (ap (λ (x : Search). after x cs) (sym at-zero) ∙ r .0, r .1)
 
-    pub lists-reach : (cs : List Call) → Demand3 b n cs
-    lists-reach cs =
-        record {
-          reached = subst (Reached b n (granted b n 0 cs)) (sym (after-fresh cs .0)) (reached-at (granted b n 0 cs));
-          refused = λ before c e. subst (λ (x : Search). (refuses b n (granted b n 0 before) c ≡ true) ↔ ((k : ℕ) × (runTold (call x c .0 .answer) ≡ refuse k))) (sym (after-fresh before .0)) (called (granted b n 0 before) c (after-fresh before .1) .refused);
-          last = λ before c e f. last before c e f;
-        }
-      where
-        last : (before : List Call) (c : Call) → cs ≡ before ++ (c ∷ []) → refuses b n (granted b n 0 before) c ≡ false → AnswerFor b n (granted b n 0 cs) (runTold (call (after (freshSearch b) before) c .0 .answer)) (call (after (freshSearch b) before) c .1)
-        last before c e f =
-            subst (λ (k : ℕ). AnswerFor b n k (runTold (call (after (freshSearch b) before) c .0 .answer)) (call (after (freshSearch b) before) c .1))
-            (sym (ap (granted b n 0) e ∙ granted-last 0 before c))
-            (subst (λ (x : Search). AnswerFor b n (if refuses b n (granted b n 0 before) c then granted b n 0 before else granted b n 0 before + c .budget) (runTold (call x c .0 .answer)) (call x c .1))
-            (sym (after-fresh before .0)) (called (granted b n 0 before) c (after-fresh before .1) .answer f))
+    -- after every list: the record, its total, and whether the search is unfinished
+    pub list-reached : (cs : List Call) → Reached b n (granted b n 0 cs) (after (freshSearch b) cs)
+    list-reached cs = subst (Reached b n (granted b n 0 cs)) (sym (after-fresh cs .0)) (reached-at (granted b n 0 cs))
+
+    -- one more call is refused exactly when its answer is a refusal
+    pub list-refused : (cs : List Call) (c : Call) → (refuses b n (granted b n 0 cs) c ≡ true) ↔ ((k : ℕ) × (runTold (call (after (freshSearch b) cs) c .0 .answer) ≡ refuse k))
+    list-refused cs c =
+        subst (λ (x : Search). (refuses b n (granted b n 0 cs) c ≡ true) ↔ ((k : ℕ) × (runTold (call x c .0 .answer) ≡ refuse k)))
+        (sym (after-fresh cs .0)) (called (granted b n 0 cs) c (after-fresh cs .1) .refused)
+
+    -- and answered as S and N say otherwise
+    pub list-answered : (cs : List Call) (c : Call) → refuses b n (granted b n 0 cs) c ≡ false → AnswerFor b n (granted b n 0 (cs ++ (c ∷ []))) (runTold (call (after (freshSearch b) cs) c .0 .answer)) (call (after (freshSearch b) cs) c .1)
+    list-answered cs c f =
+        subst (λ (k : ℕ). AnswerFor b n k (runTold (call (after (freshSearch b) cs) c .0 .answer)) (call (after (freshSearch b) cs) c .1)) (sym (granted-last 0 cs c))
+        (subst (λ (x : Search). AnswerFor b n (if refuses b n (granted b n 0 cs) c then granted b n 0 cs else granted b n 0 cs + c .budget) (runTold (call x c .0 .answer)) (call x c .1))
+        (sym (after-fresh cs .0)) (called (granted b n 0 cs) c (after-fresh cs .1) .answer f))

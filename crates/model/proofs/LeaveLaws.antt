@@ -1,4 +1,4 @@
--- Demand 1: what each call leaves, read off the definitions. A refusal leaves everything; a run touches the starts list only with a plan;
+-- What each call leaves, read off the definitions: demand 1. A refusal leaves everything; a run touches the starts list only with a plan;
 -- writing touches the buffer's first bytes only.
 use Prim.Native.Nat.{ℕ, zero, suc, _+_, _≤_}
 use mathlib.Core.Path.{_≡_, refl, ap, sym, _∙_}
@@ -21,15 +21,15 @@ use Rattle.model.specs.Open.{openedAs, opened}
 use Rattle.model.specs.Limits.{mostBudget, mostTotal}
 use Rattle.model.specs.Sound.{sound}
 use Rattle.model.specs.Run.{runRefusal, answerOf, startsAfter, answered, ranAs, ran}
-use Rattle.model.specs.Answers.{spent, plan, noPlan, runTold, openTold, writeTold}
+use Rattle.model.specs.Answers.{spent, plan, noPlan, runTold, verdictOf, openTold, writeTold, bestTold}
 use Rattle.model.specs.Text.{fitting, writtenAs, written}
-use Rattle.model.specs.Demands.{OpeningLeaves, RunLeaves, WritingLeaves, Demand1}
+use Rattle.model.specs.Demands.{OpeningLeaves, RunLeaves, WritingLeaves}
 use Rattle.model.proofs.OutcomeLaws.{refused, refuse-as, accept-eq, require-accepts}
 use Rattle.model.proofs.SoundLaws.{sound-nodes}
 
 -- ---- opening
 
-opening-leaves : (file : List ℕ) → OpeningLeaves file
+pub opening-leaves : (file : List ℕ) → OpeningLeaves file (opened file)
 unfolding opened openedAs openTold
 opening-leaves file =
     record {
@@ -51,6 +51,13 @@ nodes-batch cs (suc k) s = go (s .ended) (nodes-batch cs k (node cs s))
     go : (p : Bool) → nodesOn cs k (node cs s) .batch ≡ s .batch → at p .batch ≡ s .batch
     go true h = refl
     go false h = h
+
+-- an answer tells what the search says
+pub answer-told : (ended : Bool) (best : Best) (total : ℕ) → runTold (answerOf ended best total) ≡ accept (verdictOf ended (bestTold best) total)
+unfolding answerOf runTold verdictOf bestTold
+answer-told false best total = refl
+answer-told true Nothing total = refl
+answer-told true (Latency l) total = refl
 
 -- what an answer says of the list that it leaves
 record Listed (n : ℕ) (starts list : List ℕ) (a : Answer) : Type 0 where
@@ -93,7 +100,7 @@ run-sound s budget len e =
     room false e true f g = inr (leb-true (s .total + budget) mostTotal f)
     room false e false f g = refused g
 
-running-leaves : (s : Search) (budget : ℕ) (list : List ℕ) → RunLeaves s budget list (ran s budget list .0) (ran s budget list .1)
+pub running-leaves : (s : Search) (budget : ℕ) (list : List ℕ) → RunLeaves s budget list (ran s budget list .0) (ran s budget list .1)
 unfolding ran ranAs answered runTold nodes
 running-leaves s budget list = by (runRefusal s budget (length list)) refl
   where
@@ -115,7 +122,7 @@ running-leaves s budget list = by (runRefusal s budget (length list)) refl
         let k = run-sound s budget (length list) e in
         record {
           refused = λ j f. refused (sym (sym e ∙ f));
-          reached = λ f. (refl, refl);
+          reached = λ f. (refl, answer-told (r .ended) (r .best) (r .total));
           batch = same;
           sound-kept = sound-nodes budget s (k .0) (k .1) ∙ sym (k .0);
           spent-list = l .spent-list;
@@ -125,7 +132,7 @@ running-leaves s budget list = by (runRefusal s budget (length list)) refl
 
 -- ---- writing
 
-writing-leaves : (text : Outcome (List ℕ)) (buffer : List ℕ) → WritingLeaves text buffer (written text buffer .0) (written text buffer .1)
+pub writing-leaves : (text : Outcome (List ℕ)) (buffer : List ℕ) → WritingLeaves text buffer (written text buffer .0) (written text buffer .1)
 unfolding written writtenAs writeTold fitting _>>=_ require
 writing-leaves (refuse k) buffer =
     record { refused = λ j e. (refuse-as e, refl); long = λ t e h. refused e; fits = λ t e h. refused e }
@@ -144,8 +151,3 @@ writing-leaves (accept t) buffer = by (leb (length t) (length buffer)) refl
           long = λ u e g. (refl, refl);
           fits = λ u e g. absurd (omega (arith, leb-false (length t) (length buffer) h, ap length (accept-eq e)));
         }
-
--- ---- the demand
-
-pub demand-1 : Demand1
-demand-1 = record { opening = opening-leaves; running = running-leaves; writing = writing-leaves }

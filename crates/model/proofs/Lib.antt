@@ -25,4 +25,5 @@ pub mod FrameLaws
 pub mod FileLaws
 pub mod LeaveLaws
 pub mod OpenLaws
+pub mod PinLaws
 pub mod ProgramLaws

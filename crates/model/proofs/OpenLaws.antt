@@ -1,6 +1,6 @@
--- Opening accepts exactly the files of document 01's format whose delays can be met, and yields a sound fresh search. So demands 2 and 3
--- hold of every file that opens.
-use Prim.Native.Nat.{ℕ, _≤_, min}
+-- Opening accepts exactly the files of document 01's format whose delays can be met, and yields a sound fresh search, which ends. Its batch text is the file,
+-- and its plans are valid, after every list of calls.
+use Prim.Native.Nat.{ℕ, min}
 use mathlib.Core.Path.{_≡_, refl, ap, sym, _∙_, subst}
 use mathlib.Core.Logic.{_↔_}
 use mathlib.Core.Bool.{Bool, true, false}
@@ -14,36 +14,32 @@ use Rattle.model.specs.declared.Batch.{Batch}
 use Rattle.model.specs.declared.Best.{Best}
 use Rattle.model.specs.declared.Best.the-variants.{Nothing, Latency}
 use Rattle.model.specs.declared.Search.{Search}
-use Rattle.model.specs.declared.Opening.the-variants.{Accepted}
-use Rattle.model.specs.declared.Opened.{Opened}
-use Rattle.model.specs.declared.Written.{Written}
-use Rattle.model.specs.declared.Written.the-variants.{Bytes}
 use Rattle.model.specs.Common.{all, count, isSome, Outcome, refuse, accept, _>>=_, require}
 use Rattle.model.specs.Limits.{mostClashes}
 use Rattle.model.specs.Batch.{ticks, delaysOf}
 use Rattle.model.specs.Plan.{KeepsDelays, Valid, latency}
 use Rattle.model.specs.Clash.{clashes}
 use Rattle.model.specs.Starts.{leastStarts}
-use Rattle.model.specs.Search.{placeOf, searchOf, freshPlace, freshSearch, nodes}
+use Rattle.model.specs.Search.{placeOf, freshPlace, freshSearch, nodes}
 use Rattle.model.specs.Format.{Within, batchFile, BatchFile}
 use Rattle.model.specs.Open.{countsOk, ticksOk, jobsOk, weightOk, fewClashes, delaysMet, openFile, openedAs, opened}
 use Rattle.model.specs.Sound.{soundBatch, soundBest, sound}
-use Rattle.model.specs.Run.{runRefusal, answerOf, ran}
-use Rattle.model.specs.Text.{planLines, planText, batchText, fitting, writtenAs, written}
-use Rattle.model.specs.Answers.{plan, runTold, openTold, writeTold, bestTold}
+use Rattle.model.specs.Run.{runRefusal, ran}
+use Rattle.model.specs.Text.{planLines, planText, batchText}
+use Rattle.model.specs.Answers.{plan, runTold, verdictOf, openTold, bestTold}
 use Rattle.model.specs.Calls.{Call, call, after, granted}
-use Rattle.model.specs.Demands.{PlanWith, RunLeaves, demand2, demand3}
+use Rattle.model.specs.Demands.{PlanWith, RunLeaves}
 use Rattle.model.proofs.BoolLaws.{apart}
 use Rattle.model.proofs.ListLaws.{all-each, each-all, count-some}
-use Rattle.model.proofs.OutcomeLaws.{refused}
+use Rattle.model.proofs.OutcomeLaws.{refused, accept-eq}
 use Rattle.model.proofs.StartsLaws.{Inside, least-length, least-keeps, least-found}
 use Rattle.model.proofs.GoodLaws.{good-none, ValidBest}
-use Rattle.model.proofs.EndLaws.{End, search-ends, ends-unique, best-valid, nodes-fresh}
+use Rattle.model.proofs.EndLaws.{End, search-ends, best-valid, nodes-fresh}
 use Rattle.model.proofs.SoundLaws.{Passes, sound-passes, passes-sound, fits, place-sound}
-use Rattle.model.proofs.CallLaws.{after-fresh, lists-reach, at-batch}
+use Rattle.model.proofs.CallLaws.{after-fresh, at-batch}
 use Rattle.model.proofs.LimitLaws.{jobs-iff, within-limits}
 use Rattle.model.proofs.FileLaws.{read-format, open-read}
-use Rattle.model.proofs.LeaveLaws.{demand-1}
+use Rattle.model.proofs.LeaveLaws.{running-leaves}
 
 -- ---- refusal 10: delays of jobs below n can be met exactly when some starts keep them
 
@@ -123,32 +119,14 @@ pub fresh-sound : (b : Batch) → Passes b → sound (freshSearch b) ≡ true
 unfolding freshSearch freshPlace soundBest
 fresh-sound b p = place-sound b p 0 freshPlace (omega arith) (record { turns = good-none b; best = refl; over = λ e. refl })
 
--- ---- demand 3
+-- ---- its search ends
 
 pub file-ends : (file : List ℕ) (b : Batch) (f : BatchFile file b) → (n : ℕ) × End b (fits b (file-passes file b f)) n
 file-ends file b f = search-ends b (fits b (file-passes file b f))
 
-opened-is : (o : Outcome Batch) (b : Batch) → openedAs o ≡ record { answer = Accepted; search = freshSearch b } → o ≡ accept b
-unfolding openedAs freshSearch searchOf
-opened-is (refuse k) b e = let z : _≡_ {A = ℕ} 0 1 = cc (ap (λ (x : Opened). x .answer) e) in absurd (omega arith)
-opened-is (accept c) b e = ap (λ (x : Opened). accept (x .search .batch)) e
+-- ---- every list of calls on its fresh search
 
-pub demand-3 : demand3
-unfolding demand3 opened
-demand-3 file b e =
-    let f = open-format file b .0 (opened-is (openFile file) b e) in
-    let p = file-passes file b f in
-    let r = search-ends b (fits b p) in (
-      r .0,
-      r .1 .ends,
-      λ m h. ends-unique b (fits b p) (r .0) m (r .1 .ends) h,
-      r .1 .bound,
-      lists-reach b p (r .0) (r .1) (fresh-sound b p),
-    )
-
--- ---- demand 2
-
-after-append : (s : Search) (cs : List Call) (c : Call) → after s (cs ++ (c ∷ [])) ≡ call (after s cs) c .0 .search
+pub after-append : (s : Search) (cs : List Call) (c : Call) → after s (cs ++ (c ∷ [])) ≡ call (after s cs) c .0 .search
 unfolding after
 after-append s [] c = refl
 after-append s (d ∷ cs) c = after-append (call s d .0 .search) cs c
@@ -180,11 +158,20 @@ module _ (file : List ℕ) (b : Batch) (f : BatchFile file b) where
         batch = ap (λ (s : Search). s .batch) (r .0) ∙ at-batch b passes n end (min (granted b n 0 cs) n);
       }
 
-  file-back : (s : Search) → AfterList s → (buffer : List ℕ) → length file ≤ length buffer → written (batchText s) buffer ≡ (Bytes (length file), file ++ drop (length file) buffer)
-  unfolding batchText require _>>=_ written fitting writtenAs
-  file-back s a buffer h =
-      let t : batchText s ≡ accept file = rw (a .is-sound) (ap (λ (c : Batch). accept (batchFile c)) (a .batch) ∙ ap accept (sym (f .text))) in
-      ap (λ (o : Outcome (List ℕ)). written o buffer) t ∙ rw (le-leb (length file) (length buffer) h)
+  -- the batch text is the file
+  pub written-back : (cs : List Call) → batchText (after (freshSearch b) cs) ≡ accept file
+  unfolding batchText require _>>=_
+  written-back cs =
+      let a = after-list cs in
+      rw (a .is-sound) (ap (λ (c : Batch). accept (batchFile c)) (a .batch) ∙ ap accept (sym (f .text)))
+
+  -- the plan text is that of the record's best
+  pub text-plans : (cs : List Call) → let s = after (freshSearch b) cs in s .ended ≡ true → planText s ≡ accept (planLines (s .best) (b .n) (s .starts) (s .total))
+  unfolding planText require _>>=_
+  text-plans cs e =
+      let s = after (freshSearch b) cs in
+      let a = after-list cs in
+      rw (a .is-sound, e) (ap (λ (c : Batch). accept (planLines (s .best) (c .n) (s .starts) (s .total))) (a .batch))
 
   -- best is a valid plan with its latency
   valid-best : (best : Best) (starts : List ℕ) → ValidBest b (record { best = best; starts = starts }) → (l : ℕ) → bestTold best ≡ some l → PlanWith b starts l
@@ -192,20 +179,21 @@ module _ (file : List ℕ) (b : Batch) (f : BatchFile file b) where
   valid-best Nothing starts v l e = let z : _≡_ {A = ℕ} 0 1 = cc in absurd (omega arith)
   valid-best (Latency k) starts v l e = let z : k ≡ l = cc in (v .0, v .1 ∙ z)
 
-  plans : (s : Search) → AfterList s → (l : ℕ) → bestTold (s .best) ≡ some l → PlanWith b (s .starts) l
+  pub best-plans : (cs : List Call) → let s = after (freshSearch b) cs in (l : ℕ) → bestTold (s .best) ≡ some l → PlanWith b (s .starts) l
   unfolding placeOf
-  plans s a =
+  best-plans cs =
+      let a = after-list cs in
       subst (λ (s : Search). (l : ℕ) → bestTold (s .best) ≡ some l → PlanWith b (s .starts) l) (sym (a .is ∙ nodes-fresh b (fits b passes) (a .k)))
       (valid-best _ _ (best-valid b (fits b passes) (a .k) .good .best))
 
   -- an answer with a plan is best's, and its starts are the list's first n places
-  told-best : (e : Bool) (best : Best) (total l t : ℕ) → runTold (answerOf e best total) ≡ accept (plan l t) → bestTold best ≡ some l
-  unfolding answerOf runTold bestTold
+  told-best : (e : Bool) (best : Option ℕ) (total l t : ℕ) → verdictOf e best total ≡ plan l t → best ≡ some l
+  unfolding verdictOf
   told-best false best total l t e = let z : _≡_ {A = ℕ} 0 1 = cc in absurd (omega arith)
-  told-best true Nothing total l t e = let z : _≡_ {A = ℕ} 0 1 = cc in absurd (omega arith)
-  told-best true (Latency k) total l t e = let z : k ≡ l = cc in ap some z
+  told-best true none total l t e = let z : _≡_ {A = ℕ} 0 1 = cc in absurd (omega arith)
+  told-best true (some k) total l t e = let z : k ≡ l = cc in ap some z
 
-  answer-plans : (cs : List Call) (c : Call) (l t : ℕ) → runTold (call (after (freshSearch b) cs) c .0 .answer) ≡ accept (plan l t) → PlanWith b (call (after (freshSearch b) cs) c .1) l
+  pub answer-plans : (cs : List Call) (c : Call) → let x = call (after (freshSearch b) cs) c in (l t : ℕ) → runTold (x .0 .answer) ≡ accept (plan l t) → PlanWith b (x .1) l
   unfolding call PlanWith
   answer-plans cs c l t e = by (runRefusal s (c .budget) (length (c .starts))) refl
     where
@@ -213,43 +201,30 @@ module _ (file : List ℕ) (b : Batch) (f : BatchFile file b) where
       s = after (freshSearch b) cs
 
       leaves : RunLeaves s (c .budget) (c .starts) (ran s (c .budget) (c .starts) .0) (ran s (c .budget) (c .starts) .1)
-      leaves = demand-1 .running s (c .budget) (c .starts)
-
-      next : Search
-      next = after (freshSearch b) (cs ++ (c ∷ []))
-
-      next-is : ran s (c .budget) (c .starts) .0 .search ≡ next
-      next-is = sym (after-append (freshSearch b) cs c)
+      leaves = running-leaves s (c .budget) (c .starts)
 
       by : (o : Outcome (Unit {0})) → runRefusal s (c .budget) (length (c .starts)) ≡ o → PlanWith b (ran s (c .budget) (c .starts) .1) l
       by (refuse k) g = refused (sym (leaves .refused k g .0) ∙ e)
       by (accept u) g =
-          let r = leaves .reached g in
-          let p : PlanWith b (ran s (c .budget) (c .starts) .0 .search .starts) l =
-          subst (λ (x : Search). (l : ℕ) → bestTold (x .best) ≡ some l → PlanWith b (x .starts) l) (sym next-is) (plans next (after-list (cs ++ (c ∷ [])))) l
-          (told-best _ _ _ l t (ap runTold (sym (r .1)) ∙ e)) in
-          let z = leaves .plan-list l t e ∙ ap (λ (x : Batch). take (x .n) (ran s (c .budget) (c .starts) .0 .search .starts) ++ drop (x .n) (c .starts)) (after-list cs .batch) in
-          let placed = take-at (take (b .n) (ran s (c .budget) (c .starts) .0 .search .starts)) (drop (b .n) (c .starts)) (b .n) (p .0 .starts) in
+          let starts = ran s (c .budget) (c .starts) .0 .search .starts in
+          let p : PlanWith b starts l =
+          subst (λ (x : Search). (l : ℕ) → bestTold (x .best) ≡ some l → PlanWith b (x .starts) l) (after-append (freshSearch b) cs c) (best-plans (cs ++ (c ∷ []))) l
+          (told-best _ _ _ l t (accept-eq (sym (leaves .reached g .1) ∙ e))) in
+          let z = leaves .plan-list l t e ∙ ap (λ (x : Batch). take (x .n) starts ++ drop (x .n) (c .starts)) (after-list cs .batch) in
+          let placed = take-at (take (b .n) starts) (drop (b .n) (c .starts)) (b .n) (p .0 .starts) in
           subst (λ (list : List ℕ). Valid b list × (latency b list ≡ l)) (sym (ap (take (b .n)) z ∙ placed)) p
 
-  text-plans : (s : Search) → AfterList s → s .ended ≡ true → planText s ≡ accept (planLines (s .best) (b .n) (s .starts) (s .total))
-  unfolding planText require _>>=_
-  text-plans s a e = rw (a .is-sound, e) (ap (λ (c : Batch). accept (planLines (s .best) (c .n) (s .starts) (s .total))) (a .batch))
+-- ---- the answer of opening
 
-pub demand-2 : demand2
-unfolding demand2 opened openedAs openTold writeTold
-demand-2 file =
-    record {
-      opens = (λ e. there (openFile file) refl e, λ (b, f). ap (λ (o : Outcome Batch). openTold (openedAs o .answer)) (open-format file b .1 f));
-      yields = λ b f. ap (λ (o : Outcome Batch). openedAs o .search) (open-format file b .1 f);
-      written-back = λ b f cs buffer room.
-          let z = file-back file b f (after (freshSearch b) cs) (after-list file b f cs) buffer room in
-          (ap (λ (x : Written × List ℕ). writeTold (x .0)) z, ap (λ (x : Written × List ℕ). x .1) z);
-      best-plans = λ b f cs. plans file b f (after (freshSearch b) cs) (after-list file b f cs);
-      answer-plans = λ b f. answer-plans file b f;
-      text-plans = λ b f cs. text-plans file b f (after (freshSearch b) cs) (after-list file b f cs);
-    }
-  where
-    there : (o : Outcome Batch) → openFile file ≡ o → openTold (openedAs o .answer) ≡ accept tt → (b : Batch) × BatchFile file b
-    there (refuse k) e h = refused h
-    there (accept b) e h = (b, open-format file b .0 e)
+accepted-file : (file : List ℕ) (o : Outcome Batch) → openFile file ≡ o → openTold (openedAs o .answer) ≡ accept tt → (b : Batch) × BatchFile file b
+unfolding openedAs openTold
+accepted-file file (refuse k) e h = refused h
+accepted-file file (accept b) e h = (b, open-format file b .0 e)
+
+pub opens : (file : List ℕ) → (openTold (opened file .answer) ≡ accept tt) ↔ ((b : Batch) × BatchFile file b)
+unfolding opened openedAs openTold
+opens file = (λ e. accepted-file file (openFile file) refl e, λ (b, f). ap (λ (o : Outcome Batch). openTold (openedAs o .answer)) (open-format file b .1 f))
+
+pub yields : (file : List ℕ) (b : Batch) → BatchFile file b → opened file .search ≡ freshSearch b
+unfolding opened openedAs
+yields file b f = ap (λ (o : Outcome Batch). openedAs o .search) (open-format file b .1 f)

@@ -1,5 +1,6 @@
 -- 01's number and values for each case of the enum answers: a refusal is its number, and what is accepted has the values that 01 names.
 use Prim.Native.Nat.{ℕ}
+use mathlib.Core.Bool.{Bool, true, false}
 use mathlib.Core.Option.{Option, none, some}
 use Rattle.model.specs.declared.Best.{Best}
 use Rattle.model.specs.declared.Best.the-variants.{Nothing, Latency}
@@ -27,6 +28,12 @@ unfoldable pub totalTold : Verdict → ℕ
 totalTold (spent total) = total
 totalTold (plan latency total) = total
 totalTold (noPlan total) = total
+
+-- spent when the search has not ended, a plan when it has ended with a best, no plan when it has ended without
+unfoldable pub verdictOf : Bool → Option ℕ → ℕ → Verdict
+verdictOf false best total = spent total
+verdictOf true none total = noPlan total
+verdictOf true (some latency) total = plan latency total
 
 -- opening: accepted, or refused
 unfoldable pub openTold : Opening → Outcome (Unit {0})

@@ -1,23 +1,21 @@
 -- Marked batches: C1 to C10 of 01 and rows of our own that rule out misreadings which those leave standing. One table, and the theorem that
--- every row is what the definitions give; then what the program prints for C3.
+-- every row is what the definitions give; then what the program prints for C3, and that the bound on N is reached.
 use Prim.Native.Nat.{ℕ}
 use Prim.Native.Char.{code}
 use Prim.Native.String.{String, [] as end, _∷_ as _then_}
 use mathlib.Core.Path.{_≡_, refl}
 use mathlib.Core.Bool.{Bool, true, _&&_}
 use mathlib.Core.List.{List, [], _∷_, _++_, map}
-use lib.ListN.{replicate}
+use lib.ListN.{length, drop}
 use lib.Dec.{eqb}
 use Rattle.model.specs.declared.Batch.{Batch}
 use Rattle.model.specs.declared.Search.{Search}
-use Rattle.model.specs.declared.Answer.{Answer}
-use Rattle.model.specs.declared.Answer.the-variants.{Spent, Plan, NoPlan}
 use Rattle.model.specs.Common.{if_then_else_, Outcome, refuse, accept, _>>=_}
-use Rattle.model.specs.Search.{nodes, freshSearch}
+use Rattle.model.specs.Search.{nodes, freshSearch, nodeLimit}
 use Rattle.model.specs.Open.{opened}
 use Rattle.model.specs.Run.{ran}
-use Rattle.model.specs.Answers.{openTold}
-use Rattle.model.specs.Program.{program}
+use Rattle.model.specs.Answers.{Verdict, spent, plan, noPlan, runTold, openTold}
+use Rattle.model.specs.Program.{textFor}
 use Rattle.model.specs.All.{definitions}
 
 -- ---- files as 01 prints them: each blank stands for 0A, and the file ends in 0A
@@ -31,10 +29,14 @@ fileOf s = characters s ++ (10 ∷ [])
 
 -- ---- the table
 
--- what a batch that opens shows: each run's answer, the starts list after the last, and that N is n
+-- what a run shows: its answer in 01's words, and the starts list after it
+pub record Run : Type 0 where
+  pub answer : Outcome Verdict
+  pub list : List ℕ
+
+-- what a batch that opens shows: each run in turn, and that N is n
 pub record Shown : Type 0 where
-  pub answers : List Answer
-  pub starts : List ℕ
+  pub runs : List Run
   pub ends : Bool
 
 pub record Row : Type 0 where
@@ -46,9 +48,28 @@ pub record Row : Type 0 where
 unfoldable pub refusedWith : ℕ → List ℕ → Row
 refusedWith k file = record { file = file; budgets = []; n = 0; stated = refuse k }
 
-unfoldable pub opens : String → List ℕ → ℕ → List Answer → List ℕ → Row
-opens file budgets n answers starts =
-    record { file = fileOf file; budgets = budgets; n = n; stated = accept (record { answers = answers; starts = starts; ends = true }) }
+unfoldable pub opens : String → List ℕ → ℕ → List Run → Row
+opens file budgets n runs = record { file = fileOf file; budgets = budgets; n = n; stated = accept (record { runs = runs; ends = true }) }
+
+-- the starts list of every run: more places than any row has jobs, no two alike, so that what is written shows, and what is left
+unfoldable pub untouched : List ℕ
+untouched = 901 ∷ 902 ∷ 903 ∷ 904 ∷ 905 ∷ []
+
+-- a plan has its starts in the first places; any other answer, and a refusal, leaves the list
+unfoldable pub planAt : ℕ → ℕ → List ℕ → Run
+planAt latency total starts = record { answer = accept (plan latency total); list = starts ++ drop (length starts) untouched }
+
+unfoldable pub spentAt : ℕ → Run
+spentAt total = record { answer = accept (spent total); list = untouched }
+
+unfoldable pub noPlanAt : ℕ → Run
+noPlanAt total = record { answer = accept (noPlan total); list = untouched }
+
+unfoldable pub refusedRun : ℕ → Run
+refusedRun k = record { answer = refuse k; list = untouched }
+
+unfoldable pub c3 : String
+c3 = "A0010200 A1010001 A103000100020002"
 
 -- one run with more budget than any row needs
 unfoldable pub once : List ℕ
@@ -58,30 +79,32 @@ unfoldable pub rows : List Row
 rows =
     -- C1 to C8
     refusedWith 7 []
-    ∷ opens "A0010100 A1010001" once 1 (Plan 1 1 ∷ []) (0 ∷ [])
-    ∷ opens "A0010200 A1010001 A103000100020002" once 3 (Plan 3 3 ∷ []) (1 ∷ 0 ∷ [])
-    ∷ opens "A0010200 A10200010002 A10200010002" once 3 (Plan 3 3 ∷ []) (0 ∷ 1 ∷ [])
-    ∷ opens "A0010202 A1010001 A1010001 A200010000 A201000000" once 3 (NoPlan 3 ∷ []) (0 ∷ 0 ∷ [])
+    ∷ opens "A0010100 A1010001" once 1 (planAt 1 1 (0 ∷ []) ∷ [])
+    ∷ opens c3 once 3 (planAt 3 3 (1 ∷ 0 ∷ []) ∷ [])
+    ∷ opens "A0010200 A10200010002 A10200010002" once 3 (planAt 3 3 (0 ∷ 1 ∷ []) ∷ [])
+    ∷ opens "A0010202 A1010001 A1010001 A200010000 A201000000" once 3 (noPlanAt 3 ∷ [])
     ∷ refusedWith 10 (fileOf "A0010202 A1010001 A1010002 A200010001 A201000000")
-    ∷ opens "A0010202 A1010001 A1010002 A200010001 A20100FFFF" once 1 (Plan 2 1 ∷ []) (0 ∷ 1 ∷ [])
-    ∷ opens "A0010100 A10200010000" once 1 (Plan 2 1 ∷ []) (0 ∷ [])
+    ∷ opens "A0010202 A1010001 A1010002 A200010001 A20100FFFF" once 1 (planAt 2 1 (0 ∷ 1 ∷ []) ∷ [])
+    ∷ opens "A0010100 A10200010000" once 1 (planAt 2 1 (0 ∷ []) ∷ [])
     -- C9: C3 in three runs
-    ∷ opens "A0010200 A1010001 A103000100020002" (0 ∷ 2 ∷ 1 ∷ []) 3 (Spent 0 ∷ Spent 2 ∷ Plan 3 3 ∷ []) (1 ∷ 0 ∷ [])
+    ∷ opens c3 (0 ∷ 2 ∷ 1 ∷ []) 3 (spentAt 0 ∷ spentAt 2 ∷ planAt 3 3 (1 ∷ 0 ∷ []) ∷ [])
     -- C10: both ends of w, and one past each
-    ∷ opens "A0010201 A1010001 A1010002 A2000103E8" once 1 (Plan 1001 1 ∷ []) (0 ∷ 1000 ∷ [])
-    ∷ opens "A0010201 A1010001 A1010002 A20001FC18" once 1 (Plan 1 1 ∷ []) (0 ∷ 0 ∷ [])
+    ∷ opens "A0010201 A1010001 A1010002 A2000103E8" once 1 (planAt 1001 1 (0 ∷ 1000 ∷ []) ∷ [])
+    ∷ opens "A0010201 A1010001 A1010002 A20001FC18" once 1 (planAt 1 1 (0 ∷ 0 ∷ []) ∷ [])
     ∷ refusedWith 6 (fileOf "A0010201 A1010001 A1010002 A2000103E9")
     ∷ refusedWith 6 (fileOf "A0010201 A1010001 A1010002 A20001FC17")
     -- our own: a station shared in later ticks only
-    ∷ opens "A0010200 A10200000001 A10200000001" once 3 (Plan 3 3 ∷ []) (0 ∷ 1 ∷ [])
+    ∷ opens "A0010200 A10200000001 A10200000001" once 3 (planAt 3 3 (0 ∷ 1 ∷ []) ∷ [])
     -- station 15
-    ∷ opens "A0010200 A1018000 A1018000" once 3 (Plan 2 3 ∷ []) (0 ∷ 1 ∷ [])
+    ∷ opens "A0010200 A1018000 A1018000" once 3 (planAt 2 3 (0 ∷ 1 ∷ []) ∷ [])
     -- a weight below 0 that raises a start
-    ∷ opens "A0010302 A1010001 A1010002 A1010004 A200010005 A20102FFFE" once 1 (Plan 6 1 ∷ []) (0 ∷ 5 ∷ 3 ∷ [])
+    ∷ opens "A0010302 A1010001 A1010002 A1010004 A200010005 A20102FFFE" once 1 (planAt 6 1 (0 ∷ 5 ∷ 3 ∷ []) ∷ [])
     -- four jobs: the order in which clashes are branched on
-    ∷ opens "A0010400 A10200010000 A1010002 A1010002 A10200010003" once 5 (Plan 3 5 ∷ []) (0 ∷ 0 ∷ 1 ∷ 1 ∷ [])
+    ∷ opens "A0010400 A10200010000 A1010002 A1010002 A10200010003" once 5 (planAt 3 5 (0 ∷ 0 ∷ 1 ∷ 1 ∷ []) ∷ [])
     -- runs on an ended search give its result again
-    ∷ opens "A0010200 A1010001 A103000100020002" (3 ∷ 0 ∷ 1000000 ∷ []) 3 (Plan 3 3 ∷ Plan 3 3 ∷ Plan 3 3 ∷ []) (1 ∷ 0 ∷ [])
+    ∷ opens c3 (3 ∷ 0 ∷ 1000000 ∷ []) 3 (planAt 3 3 (1 ∷ 0 ∷ []) ∷ planAt 3 3 (1 ∷ 0 ∷ []) ∷ planAt 3 3 (1 ∷ 0 ∷ []) ∷ [])
+    -- a refused run changes nothing
+    ∷ opens c3 (2 ∷ 1000001 ∷ 1 ∷ []) 3 (spentAt 2 ∷ refusedRun 11 ∷ planAt 3 3 (1 ∷ 0 ∷ []) ∷ [])
     -- the refusals' numbers and order: 1 before 2, 2 before 3, 3 before 4, 2 before 4, 5 before 6, 8 before 10
     ∷ refusedWith 1 (fileOf "A0010100 A101000g")
     ∷ refusedWith 2 (fileOf "A00201")
@@ -94,30 +117,31 @@ rows =
 
 -- ---- what the definitions give
 
-unfoldable pub runs : Search → List ℕ → List ℕ → List Answer × List ℕ
-runs s [] list = ([], list)
-runs s (k ∷ ks) list =
-    let r = ran s k list in
-    let (answers, last) = runs (r .0 .search) ks (r .1) in
-    (r .0 .answer ∷ answers, last)
+unfoldable pub runs : Search → List ℕ → List Run
+runs s [] = []
+runs s (k ∷ ks) = let (r, list) = ran s k untouched in record { answer = runTold (r .answer); list = list } ∷ runs (r .search) ks
 
 unfoldable pub endsAt : Batch → ℕ → Bool
 endsAt b n = let s = nodes n (freshSearch b) in s .ended && eqb (s .total) n
 
 unfoldable pub shown : Row → Batch → Shown
-shown r b =
-    let (answers, starts) = runs (freshSearch b) (r .budgets) (replicate (b .n) 0) in
-    record { answers = answers; starts = starts; ends = endsAt b (r .n) }
+shown r b = record { runs = runs (freshSearch b) (r .budgets); ends = endsAt b (r .n) }
 
 unfoldable pub gives : Row → Outcome Shown
 gives r = let o = opened (r .file) in openTold (o .answer) >>= λ u. accept (shown r (o .search .batch))
 
 pub marked : map gives rows ≡ map (λ r. r .stated) rows
-unfolding definitions rows refusedWith opens once gives shown runs endsAt characters fileOf
+unfolding definitions rows refusedWith opens untouched planAt spentAt noPlanAt refusedRun c3 once gives shown runs endsAt characters fileOf
 marked = refl
 
 -- ---- the program
 
-pub printed-c3 : program (fileOf "A0010200 A1010001 A103000100020002") ≡ fileOf "B00102000300000003 B1000001 B1010000"
-unfolding definitions characters fileOf
+pub printed-c3 : textFor (fileOf c3) ≡ fileOf "B00102000300000003 B1000001 B1010000"
+unfolding definitions characters fileOf c3
 printed-c3 = refl
+
+-- ---- the bound on N: C3 has one clash and takes 3 nodes, as many as 2^(D+1) − 1 allows
+
+pub limit-c3 : nodeLimit (opened (fileOf c3) .search .batch) ≡ 3
+unfolding definitions characters fileOf c3
+limit-c3 = refl

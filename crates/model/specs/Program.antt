@@ -1,7 +1,8 @@
--- The program `plan`: from the bytes of standard input to those of standard output.
+-- The program `plan`: from the bytes of a batch file to the text that it prints. Which bytes are the file, the first 65,536 of standard input or all if
+-- fewer, no definition can say: what is read and written is tested.
 use Prim.Native.Nat.{ℕ, zero, suc}
 use mathlib.Core.List.{List, _++_}
-use lib.ListN.{length, take, drop, replicate}
+use lib.ListN.{length, drop, replicate}
 use Rattle.model.specs.declared.Search.{Search}
 use Rattle.model.specs.Common.{Outcome, refuse, accept, _>>=_}
 use Rattle.model.specs.Limits.{mostJobs, mostBudget}
@@ -30,10 +31,6 @@ printed (refuse k) = refusalLine k
 -- the text for a batch file. 100 spent runs use up the limit on total, so that the 101st answers otherwise
 unfoldable pub textFor : List ℕ → List ℕ
 textFor file = printed (openFile file >>= λ b. planned 101 (freshSearch b))
-
--- the first 65,536 bytes are the file
-unfoldable pub program : List ℕ → List ℕ
-program input = textFor (take 65536 input)
 
 -- a text at the front of a buffer: its length, and what the buffer then holds
 unfoldable pub atFront : List ℕ → List ℕ → ℕ × List ℕ

@@ -1,2 +1,3 @@
--- The demands, proved of what the public calls return.
+-- The demands, proved of what the public calls return, and pinned.
 pub mod Demands
+pub mod Pins

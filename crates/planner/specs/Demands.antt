@@ -1,4 +1,4 @@
--- The three demands, as statements about what the calls return. Every hypothesis of the form r ≡ opened file, (r, list′) ≡ ran s budget list or
+-- The three demands, as statements about what the calls return; proofs/Demands proves them. Every hypothesis of the form r ≡ opened file, (r, list′) ≡ ran s budget list or
 -- (w, buffer′) ≡ written text buffer is word for word what the contract of that call says of its result and of the caller's memory.
 use Prim.Native.Nat.{ℕ, _≤_}
 use mathlib.Core.Path.{_≡_}
@@ -15,12 +15,12 @@ use Rattle.model.specs.declared.Written.{Written}
 use Rattle.model.specs.Common.{refuse, accept}
 use Rattle.model.specs.Search.{freshSearch, Ends, nodeLimit}
 use Rattle.model.specs.Format.{BatchFile}
-use Rattle.model.specs.Open.{openFile, opened, blankSearch}
+use Rattle.model.specs.Open.{opened}
 use Rattle.model.specs.Run.{ran}
 use Rattle.model.specs.Text.{planLines, planText, batchText, written}
 use Rattle.model.specs.Answers.{plan, runTold, openTold, writeTold, bestTold}
 use Rattle.model.specs.Calls.{Call, refuses, granted}
-use Rattle.model.specs.Demands.{RunLeaves, WritingLeaves, PlanWith, Reached, AnswerFor}
+use Rattle.model.specs.Demands.{OpeningLeaves, RunLeaves, WritingLeaves, PlanWith, Reached, AnswerFor}
 
 -- t is the record after a list of run calls on s, each call getting the record that the one before returned
 pub data Called : Search → List Call → Search → Type 0 where
@@ -30,8 +30,7 @@ pub data Called : Search → List Call → Search → Type 0 where
 -- ---- demand 1: what each call leaves, for every file, budget, record and buffer, refusals included
 
 pub record Demand1 : Type 0 where
-  pub refused-opening : (file : List ℕ) (o : Opened) → o ≡ opened file → (k : ℕ) → openFile file ≡ refuse k → (openTold (o .answer) ≡ refuse k) × (o .search ≡ blankSearch)
-  pub accepted-opening : (file : List ℕ) (o : Opened) → o ≡ opened file → (b : Batch) → openFile file ≡ accept b → (openTold (o .answer) ≡ accept tt) × (o .search ≡ freshSearch b)
+  pub opening : (file : List ℕ) (o : Opened) → o ≡ opened file → OpeningLeaves file o
   pub running : (s : Search) (budget : ℕ) (list : List ℕ) (r : Ran) (list′ : List ℕ) → (r, list′) ≡ ran s budget list → RunLeaves s budget list r list′
   pub plan-writing : (s : Search) (buffer : List ℕ) (w : Written) (buffer′ : List ℕ) → (w, buffer′) ≡ written (planText s) buffer → WritingLeaves (planText s) buffer w buffer′
   pub batch-writing : (s : Search) (buffer : List ℕ) (w : Written) (buffer′ : List ℕ) → (w, buffer′) ≡ written (batchText s) buffer → WritingLeaves (batchText s) buffer w buffer′
@@ -55,8 +54,10 @@ pub record Demand2 (file : List ℕ) (o : Opened) : Type 0 where
 
 -- ---- demand 3: every list of run calls on a freshly opened search
 
--- the last call of a list: refused exactly when the table refuses it, and otherwise answered as S and N say
-pub record LastCall (b : Batch) (N : ℕ) (before : List Call) (c : Call) (r : Ran) (list′ : List ℕ) : Type 0 where
+-- the last call of a list, s being the record that the list ends in: it is the one that this call returned. The call is refused exactly when the table
+-- refuses it, and otherwise answered as S and N say
+pub record LastCall (b : Batch) (N : ℕ) (before : List Call) (c : Call) (s : Search) (r : Ran) (list′ : List ℕ) : Type 0 where
+  pub returned : r .search ≡ s
   pub refused : (refuses b N (granted b N 0 before) c ≡ true) ↔ ((k : ℕ) × (runTold (r .answer) ≡ refuse k))
   pub answered : refuses b N (granted b N 0 before) c ≡ false → AnswerFor b N (granted b N 0 (before ++ (c ∷ []))) (runTold (r .answer)) list′
 
@@ -65,19 +66,20 @@ pub record AfterList (fresh : Search) (N : ℕ) (cs : List Call) (s : Search) : 
   pub reached : Reached (fresh .batch) N (granted (fresh .batch) N 0 cs) s
   pub last :
       (before : List Call) (c : Call) → cs ≡ before ++ (c ∷ []) → (t : Search) → Called fresh before t
-      → (r : Ran) (list′ : List ℕ) → (r, list′) ≡ ran t (c .budget) (c .starts) → LastCall (fresh .batch) N before c r list′
+      → (r : Ran) (list′ : List ℕ) → (r, list′) ≡ ran t (c .budget) (c .starts) → LastCall (fresh .batch) N before c s r list′
 
-pub record Demand3 (o : Opened) : Type 0 where
+-- of the fresh record that an accepted opening yields
+pub record Demand3 (fresh : Search) : Type 0 where
   pub N : ℕ
-  pub ends : Ends (o .search .batch) N
-  pub only : (M : ℕ) → Ends (o .search .batch) M → M ≡ N
-  pub bound : N ≤ nodeLimit (o .search .batch)
+  pub ends : Ends (fresh .batch) N
+  pub only : (M : ℕ) → Ends (fresh .batch) M → M ≡ N
+  pub bound : N ≤ nodeLimit (fresh .batch)
   -- every list, the empty one too
-  pub lists : (cs : List Call) (s : Search) → Called (o .search) cs s → AfterList (o .search) N cs s
+  pub lists : (cs : List Call) (s : Search) → Called fresh cs s → AfterList fresh N cs s
 
 -- ---- all three: for every file, whatever is opened
 
 pub record Demands : Type 0 where
   pub demand-1 : Demand1
   pub demand-2 : (file : List ℕ) (o : Opened) → o ≡ opened file → Demand2 file o
-  pub demand-3 : (file : List ℕ) (o : Opened) → o ≡ opened file → openTold (o .answer) ≡ accept tt → Demand3 o
+  pub demand-3 : (file : List ℕ) (o : Opened) → o ≡ opened file → openTold (o .answer) ≡ accept tt → Demand3 (o .search)
