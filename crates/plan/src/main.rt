@@ -1,5 +1,5 @@
 // The program `plan`: a batch file on standard input, its shortest plan on standard output, or BF and the refusal's number.
-// A failed read or write is told on standard error.
+// A failed read or write, and an argument, is told on standard error.
 mod input;
 mod text;
 
@@ -7,6 +7,18 @@ use libc::STDERR_FILENO;
 use libc::STDOUT_FILENO;
 
 fn main() {
+    if 1 < os::arg_count() {
+        io::write_all(
+            STDERR_FILENO,
+            b"plan: takes no arguments; the batch file comes on standard input, as in: plan < FILE\n",
+        );
+        return;
+    }
+    plan_input();
+}
+
+// The text for what standard input has.
+fn plan_input() {
     let mut file = io::large_buffer();
     let got = input::read_all(&mut file);
     if got.failed {
