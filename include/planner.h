@@ -24,6 +24,28 @@
 extern "C" {
 #endif
 
+/* ---- the version */
+
+/* It rises whenever the record's layout, a number's meaning or a call changes. A program compiled with this header links only with an archive of
+ * the same version: with gcc and clang every file that includes the header refers to planner_version_1, a name that no archive of another version
+ * has. With another compiler, or with --gc-sections and a gcc before 11 or a clang before 13, call planner_version_1() somewhere in the program;
+ * it answers PLANNER_VERSION.
+ */
+#define PLANNER_VERSION 1
+uint32_t planner_version_1(void);
+
+#if defined(__GNUC__)
+#pragma GCC diagnostic push
+#pragma GCC diagnostic ignored "-Wattributes" /* of a compiler that knows `retain` and an assembler that does not */
+#if defined(__has_attribute)
+#if __has_attribute(__retain__)
+__attribute__((__retain__)) /* --gc-sections keeps it */
+#endif
+#endif
+__attribute__((__used__)) static uint32_t (*const planner_linked)(void) = planner_version_1;
+#pragma GCC diagnostic pop
+#endif
+
 /* ---- the limits */
 
 #define PLANNER_JOBS 24            /* the most jobs of a batch; the least is 1 */
@@ -90,6 +112,7 @@ typedef struct planner_record {
 /* That a plan is the shortest valid one, and that no valid plan exists, holds for a record that planner_open made and that nothing but
  * planner_run has changed since. A sound record from elsewhere is answered as it stands: its best is taken for a plan and its path for the part
  * of the search that is done.
+ * These four are values of `kind`: with PLANNER_REFUSED, one of the PLANNER_REFUSAL_ numbers below stands in `refusal`.
  */
 #define PLANNER_SPENT 0      /* the budget is used and the search goes on: run again */
 #define PLANNER_PLAN 1       /* the search has ended with the shortest valid plan */
@@ -110,29 +133,30 @@ typedef struct planner_text {
 
 /* ---- the refusals: where several conditions hold, a call gives the first in the order that it asks them */
 
-#define PLANNER_REFUSED_LINE 1       /* a line without 0A, without digits, with an odd count, or with another byte than 0-9 and A-F */
-#define PLANNER_REFUSED_FRAME 2      /* the first byte is not the kind due, or the length is wrong */
-#define PLANNER_REFUSED_EDITION 3    /* the edition is not 01 */
-#define PLANNER_REFUSED_COUNT 4      /* n, m or p is outside its limits (1 to 24 jobs, at most 128 delays, 1 to 16 ticks) */
-#define PLANNER_REFUSED_JOB 5        /* a delay names a job of n or above, or one job twice */
-#define PLANNER_REFUSED_WEIGHT 6     /* a weight is outside -1,000 to 1,000 */
-#define PLANNER_REFUSED_MISSING 7    /* the file ends where a frame is due */
-#define PLANNER_REFUSED_EXTRA 8      /* bytes after the last frame */
-#define PLANNER_REFUSED_CLASHES 9    /* more than 1,024 clashes */
-#define PLANNER_REFUSED_DELAYS 10    /* no starts meet the delays */
-#define PLANNER_REFUSED_BUDGET 11    /* a budget above 1,000,000 */
-#define PLANNER_REFUSED_RECORD 12    /* the record is not sound */
-#define PLANNER_REFUSED_STARTS 13    /* the starts list is shorter than n */
-#define PLANNER_REFUSED_TOTAL 14     /* the search has not ended, and total + budget is above 100,000,000 */
-#define PLANNER_REFUSED_UNENDED 15   /* a plan text is wanted of a search that has not ended */
-#define PLANNER_REFUSED_BUFFER 16    /* the text is longer than the buffer */
+/* These are values of `refusal`, the first ten also what planner_open answers; PLANNER_REFUSED, above, is a value of `kind`. */
+#define PLANNER_REFUSAL_LINE 1       /* a line without 0A, without digits, with an odd count, or with another byte than 0-9 and A-F */
+#define PLANNER_REFUSAL_FRAME 2      /* the first byte is not the kind due, or the length is wrong */
+#define PLANNER_REFUSAL_EDITION 3    /* the edition is not 01 */
+#define PLANNER_REFUSAL_COUNT 4      /* n, m or p is outside its limits (1 to 24 jobs, at most 128 delays, 1 to 16 ticks) */
+#define PLANNER_REFUSAL_JOB 5        /* a delay names a job of n or above, or one job twice */
+#define PLANNER_REFUSAL_WEIGHT 6     /* a weight is outside -1,000 to 1,000 */
+#define PLANNER_REFUSAL_MISSING 7    /* the file ends where a frame is due */
+#define PLANNER_REFUSAL_EXTRA 8      /* bytes after the last frame */
+#define PLANNER_REFUSAL_CLASHES 9    /* more than 1,024 clashes */
+#define PLANNER_REFUSAL_DELAYS 10    /* no starts meet the delays */
+#define PLANNER_REFUSAL_BUDGET 11    /* a budget above 1,000,000 */
+#define PLANNER_REFUSAL_RECORD 12    /* the record is not sound */
+#define PLANNER_REFUSAL_STARTS 13    /* the starts list is shorter than n */
+#define PLANNER_REFUSAL_TOTAL 14     /* the search has not ended, and total + budget is above 100,000,000 */
+#define PLANNER_REFUSAL_UNENDED 15   /* a plan text is wanted of a search that has not ended */
+#define PLANNER_REFUSAL_BUFFER 16    /* the text is longer than the buffer */
 
 /* ---- the calls */
 
 /* Opens a batch file of `length` bytes.
  * Answers 0: the record is the fresh search of the file's batch, with 0 in the places that the batch does not use.
  * Answers 1 to 10: refused. The record is left as it was.
- * Asked line by line, in a line PLANNER_REFUSED_MISSING first and then _LINE, _FRAME, _EDITION, _COUNT, _JOB, _WEIGHT;
+ * Asked line by line, in a line PLANNER_REFUSAL_MISSING first and then _LINE, _FRAME, _EDITION, _COUNT, _JOB, _WEIGHT;
  * after the last line _EXTRA, _CLASHES, _DELAYS.
  */
 uint8_t planner_open(const uint8_t *file, size_t length, planner_record *record);
@@ -140,19 +164,19 @@ uint8_t planner_open(const uint8_t *file, size_t length, planner_record *record)
 /* Visits nodes until the search has ended or `budget` of them are visited; on a search that has ended it visits none and answers again.
  * Reads and writes the record, but for its batch, which stays as it is. `starts` has `count` places, at least batch.n of them
  * (PLANNER_JOBS always do): with PLANNER_PLAN the first batch.n become the plan's starts and the rest is left, else all are left.
- * Refused, asked in this order: PLANNER_REFUSED_BUDGET, _RECORD, _STARTS, _TOTAL. The record and the starts are then left as they were.
+ * Refused, asked in this order: PLANNER_REFUSAL_BUDGET, _RECORD, _STARTS, _TOTAL. The record and the starts are then left as they were.
  */
 planner_answer planner_run(planner_record *record, uint32_t budget, uint16_t *starts, size_t count);
 
 /* Writes the plan text of a search that has ended, or its one line for no plan, into the first bytes of `buffer` and answers their number.
  * No zero byte is added; the rest of the `capacity` bytes and the record are left. PLANNER_PLAN_TEXT bytes always do.
- * Refused, asked in this order: PLANNER_REFUSED_RECORD, _UNENDED, _BUFFER. The buffer is then left as it was.
+ * Refused, asked in this order: PLANNER_REFUSAL_RECORD, _UNENDED, _BUFFER. The buffer is then left as it was.
  */
 planner_text planner_write_plan(const planner_record *record, uint8_t *buffer, size_t capacity);
 
 /* Writes the batch file of the record, byte for byte the file that was opened, into the first bytes of `buffer` and answers their number.
  * No zero byte is added; the rest of the `capacity` bytes and the record are left. PLANNER_BATCH_TEXT bytes always do.
- * Refused, asked in this order: PLANNER_REFUSED_RECORD, _BUFFER. The buffer is then left as it was.
+ * Refused, asked in this order: PLANNER_REFUSAL_RECORD, _BUFFER. The buffer is then left as it was.
  */
 planner_text planner_write_batch(const planner_record *record, uint8_t *buffer, size_t capacity);
 

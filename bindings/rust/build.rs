@@ -1,4 +1,5 @@
 //! Links the planner's archive, libplanner_c.a: from the folder named by PLANNER_LIBRARY_DIR, else from the repository's target/staticlib.
+//! The archive is for Linux on x86-64; a build for any other target stops here.
 use std::env;
 use std::path::PathBuf;
 use std::process::exit;
@@ -11,7 +12,16 @@ fn stop(words: &str) -> ! {
     exit(1);
 }
 
+/// What cargo says about the target that is built for.
+fn target(variable: &str) -> String {
+    env::var(variable).unwrap_or_else(|_| stop(&format!("{variable} is not set; this script is run by cargo")))
+}
+
 fn main() {
+    let (system, processor) = (target("CARGO_CFG_TARGET_OS"), target("CARGO_CFG_TARGET_ARCH"));
+    if (system.as_str(), processor.as_str()) != ("linux", "x86_64") {
+        stop(&format!("the planner's library is for linux on x86_64 alone, and this build is for {system} on {processor}"));
+    }
     println!("cargo:rerun-if-env-changed={VARIABLE}");
     let folder = match env::var_os(VARIABLE) {
         Some(named) => PathBuf::from(named),

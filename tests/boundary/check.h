@@ -60,6 +60,7 @@ extern const char *const C3;
 extern const char *const C5;
 
 /* The groups. */
+void check_version(void);
 void check_layout(void);
 void check_fields(void);
 void check_answers(void);

@@ -8,14 +8,14 @@ static void same_unsound(const planner_record *record) {
     uint8_t buffer[PLANNER_BATCH_TEXT];
     planner_text text;
     memcpy(&copy, record, sizeof copy);
-    same_answer(run(&copy, 1), PLANNER_REFUSED, PLANNER_REFUSED_RECORD, 0, 0);
+    same_answer(run(&copy, 1), PLANNER_REFUSED, PLANNER_REFUSAL_RECORD, 0, 0);
     same_bytes(&copy, record, sizeof copy);
     text = planner_write_plan(record, buffer, sizeof buffer);
     same((long)text.length, 0);
-    same(text.refusal, PLANNER_REFUSED_RECORD);
+    same(text.refusal, PLANNER_REFUSAL_RECORD);
     text = planner_write_batch(record, buffer, sizeof buffer);
     same((long)text.length, 0);
-    same(text.refusal, PLANNER_REFUSED_RECORD);
+    same(text.refusal, PLANNER_REFUSAL_RECORD);
 }
 
 /* Of a sound record a run with budget 0 is answered and counts nothing. */

@@ -142,10 +142,10 @@ void check_layout(void) {
     opened(&batch, 0, delays);
     begin("a refused file leaves the record as it was, to the byte, wherever it is refused");
     batch.weight[0] = 1001;
-    opened(&batch, PLANNER_REFUSED_WEIGHT, NULL);
+    opened(&batch, PLANNER_REFUSAL_WEIGHT, NULL);
     batch = filled(3);
     batch.from[127] = 24;
-    opened(&batch, PLANNER_REFUSED_JOB, NULL);
+    opened(&batch, PLANNER_REFUSAL_JOB, NULL);
     batch = idle(0, 1, 0);
-    opened(&batch, PLANNER_REFUSED_COUNT, NULL);
+    opened(&batch, PLANNER_REFUSAL_COUNT, NULL);
 }

@@ -15,7 +15,7 @@ static void check_counts(void) {
     same(opening(&batch, &record), 0);
     same(record.batch.n, 24);
     batch = idle(PLANNER_JOBS + 1, 1, 0);
-    same(opening(&batch, &record), PLANNER_REFUSED_COUNT);
+    same(opening(&batch, &record), PLANNER_REFUSAL_COUNT);
     batch = idle(1, 1, 0);
     same(opening(&batch, &record), 0);
     begin("PLANNER_DELAYS: 0 to 128");
@@ -23,15 +23,15 @@ static void check_counts(void) {
     same(opening(&batch, &record), 0);
     same(record.batch.m, 128);
     batch = idle(2, 1, PLANNER_DELAYS + 1);
-    same(opening(&batch, &record), PLANNER_REFUSED_COUNT);
+    same(opening(&batch, &record), PLANNER_REFUSAL_COUNT);
     begin("PLANNER_TICKS: 1 to 16");
     batch = idle(1, PLANNER_TICKS, 0);
     same(opening(&batch, &record), 0);
     same(record.batch.jobs[0].ticks, 16);
     same(open_text("A0010100\nA111"
                    "0000000000000000000000000000000000000000000000000000000000000000"
-                   "0000\n", &record), PLANNER_REFUSED_COUNT);
-    same(open_text("A0010100\nA100\n", &record), PLANNER_REFUSED_COUNT);
+                   "0000\n", &record), PLANNER_REFUSAL_COUNT);
+    same(open_text("A0010100\nA100\n", &record), PLANNER_REFUSAL_COUNT);
 }
 
 static void check_weights(void) {
@@ -45,7 +45,7 @@ static void check_weights(void) {
         same(opening(&batch, &record), 0);
         same(record.batch.delays[0].weight, signs[s] * 1000);
         batch.weight[0] = signs[s] * (PLANNER_WEIGHT + 1);
-        same(opening(&batch, &record), PLANNER_REFUSED_WEIGHT);
+        same(opening(&batch, &record), PLANNER_REFUSAL_WEIGHT);
     }
 }
 
@@ -75,9 +75,9 @@ static void check_turns(void) {
     for (k = 0; k < PLANNER_TURNS; k++)
         same(record.path[k].clash, PLANNER_TURNS - 1 - k);
     record.path[PLANNER_TURNS - 1].clash = PLANNER_TURNS;
-    same_answer(run(&record, 0), PLANNER_REFUSED, PLANNER_REFUSED_RECORD, 0, 0);
+    same_answer(run(&record, 0), PLANNER_REFUSED, PLANNER_REFUSAL_RECORD, 0, 0);
     batch = crowded(14);
-    same(opening(&batch, &record), PLANNER_REFUSED_CLASHES);
+    same(opening(&batch, &record), PLANNER_REFUSAL_CLASHES);
 }
 
 /* No start passes PLANNER_START, but a record that came from elsewhere may hold it. */
@@ -90,24 +90,24 @@ static void check_best(void) {
     record.latency = PLANNER_LATENCY;
     same_answer(run(&record, 0), PLANNER_PLAN, 0, 23016, 0);
     record.starts[0] = PLANNER_START + 1;
-    same_answer(run(&record, 0), PLANNER_REFUSED, PLANNER_REFUSED_RECORD, 0, 0);
+    same_answer(run(&record, 0), PLANNER_REFUSED, PLANNER_REFUSAL_RECORD, 0, 0);
     record.starts[0] = PLANNER_START;
     record.latency = PLANNER_LATENCY + 1;
-    same_answer(run(&record, 0), PLANNER_REFUSED, PLANNER_REFUSED_RECORD, 0, 0);
+    same_answer(run(&record, 0), PLANNER_REFUSED, PLANNER_REFUSAL_RECORD, 0, 0);
 }
 
 static void check_nodes(void) {
     planner_record record;
     begin("PLANNER_BUDGET: 1,000,000");
     same(open_text(C3, &record), 0);
-    same_answer(run(&record, PLANNER_BUDGET + 1), PLANNER_REFUSED, PLANNER_REFUSED_BUDGET, 0, 0);
+    same_answer(run(&record, PLANNER_BUDGET + 1), PLANNER_REFUSED, PLANNER_REFUSAL_BUDGET, 0, 0);
     same_answer(run(&record, PLANNER_BUDGET), PLANNER_PLAN, 0, 3, 3);
     begin("PLANNER_TOTAL: 100,000,000, not asked of an ended search");
     same(open_text(C3, &record), 0);
     record.total = PLANNER_TOTAL - 1;
-    same_answer(run(&record, 2), PLANNER_REFUSED, PLANNER_REFUSED_TOTAL, 0, 0);
+    same_answer(run(&record, 2), PLANNER_REFUSED, PLANNER_REFUSAL_TOTAL, 0, 0);
     same_answer(run(&record, 1), PLANNER_SPENT, 0, 0, 100000000);
-    same_answer(run(&record, 1), PLANNER_REFUSED, PLANNER_REFUSED_TOTAL, 0, 0);
+    same_answer(run(&record, 1), PLANNER_REFUSED, PLANNER_REFUSAL_TOTAL, 0, 0);
     same_answer(run(&record, 0), PLANNER_SPENT, 0, 0, 100000000);
     same(open_text("A0010100\nA1010001\n", &record), 0);
     record.total = PLANNER_TOTAL - 1;
@@ -120,13 +120,13 @@ static void check_empty(void) {
     begin("PLANNER_EMPTY_CLASH and PLANNER_EMPTY_SIDE: the one turn that is empty");
     same(open_text(C3, &record), 0);
     memset(record.path, 0, sizeof record.path);
-    same_answer(run(&record, 0), PLANNER_REFUSED, PLANNER_REFUSED_RECORD, 0, 0);
+    same_answer(run(&record, 0), PLANNER_REFUSED, PLANNER_REFUSAL_RECORD, 0, 0);
     same(open_text(C3, &record), 0);
     record.path[0].clash = PLANNER_EMPTY_CLASH - 1;
-    same_answer(run(&record, 0), PLANNER_REFUSED, PLANNER_REFUSED_RECORD, 0, 0);
+    same_answer(run(&record, 0), PLANNER_REFUSED, PLANNER_REFUSAL_RECORD, 0, 0);
     record.path[0].clash = PLANNER_EMPTY_CLASH;
     record.path[0].side = PLANNER_EMPTY_SIDE + 1;
-    same_answer(run(&record, 0), PLANNER_REFUSED, PLANNER_REFUSED_RECORD, 0, 0);
+    same_answer(run(&record, 0), PLANNER_REFUSED, PLANNER_REFUSAL_RECORD, 0, 0);
     record.path[0].side = PLANNER_EMPTY_SIDE;
     same_answer(run(&record, 0), PLANNER_SPENT, 0, 0, 0);
 }

@@ -1,8 +1,9 @@
-/* The C boundary: sizes, offsets and constants of include/planner.h are those of the library. Linked with libplanner_c.a.
+/* The C boundary: version, sizes, offsets and constants of include/planner.h are those of the library. Linked with libplanner_c.a.
  * The library cannot tell its layout, so the checks find it by what the calls do. Last line: 'N passed, M failed'. */
 #include "check.h"
 
 int main(void) {
+    check_version();
     check_layout();
     check_fields();
     check_answers();

@@ -12,15 +12,15 @@ static void refused_file(const char *name, const char *text, int refusal, int nu
 }
 
 static void check_opening(void) {
-    refused_file("1: an odd count of digits", "A0010\n", PLANNER_REFUSED_LINE, 1);
-    refused_file("2: a job line too short for its ticks", "A0010100\nA10100\n", PLANNER_REFUSED_FRAME, 2);
-    refused_file("3: edition 02", "A0020100\nA1010001\n", PLANNER_REFUSED_EDITION, 3);
-    refused_file("4: no jobs", "A0010000\n", PLANNER_REFUSED_COUNT, 4);
-    refused_file("5: a delay from a job to itself", "A0010201\nA1010001\nA1010002\nA200000001\n", PLANNER_REFUSED_JOB, 5);
-    refused_file("6: weight 1,001", "A0010201\nA1010001\nA1010002\nA2000103E9\n", PLANNER_REFUSED_WEIGHT, 6);
-    refused_file("7: an empty file", "", PLANNER_REFUSED_MISSING, 7);
-    refused_file("8: 0A after the last frame", "A0010100\nA1010001\n\n", PLANNER_REFUSED_EXTRA, 8);
-    refused_file("10: C6", "A0010202\nA1010001\nA1010002\nA200010001\nA201000000\n", PLANNER_REFUSED_DELAYS, 10);
+    refused_file("1: an odd count of digits", "A0010\n", PLANNER_REFUSAL_LINE, 1);
+    refused_file("2: a job line too short for its ticks", "A0010100\nA10100\n", PLANNER_REFUSAL_FRAME, 2);
+    refused_file("3: edition 02", "A0020100\nA1010001\n", PLANNER_REFUSAL_EDITION, 3);
+    refused_file("4: no jobs", "A0010000\n", PLANNER_REFUSAL_COUNT, 4);
+    refused_file("5: a delay from a job to itself", "A0010201\nA1010001\nA1010002\nA200000001\n", PLANNER_REFUSAL_JOB, 5);
+    refused_file("6: weight 1,001", "A0010201\nA1010001\nA1010002\nA2000103E9\n", PLANNER_REFUSAL_WEIGHT, 6);
+    refused_file("7: an empty file", "", PLANNER_REFUSAL_MISSING, 7);
+    refused_file("8: 0A after the last frame", "A0010100\nA1010001\n\n", PLANNER_REFUSAL_EXTRA, 8);
+    refused_file("10: C6", "A0010202\nA1010001\nA1010002\nA200010001\nA201000000\n", PLANNER_REFUSAL_DELAYS, 10);
 }
 
 static void check_clashes(void) {
@@ -33,8 +33,8 @@ static void check_clashes(void) {
     for (i = 0; i < 9; i++)
         for (a = 0; a < 16; a++)
             batch.masks[i][a] = 1;
-    same(PLANNER_REFUSED_CLASHES, 9);
-    same(planner_open(file, file_of(&batch, file), &record), PLANNER_REFUSED_CLASHES);
+    same(PLANNER_REFUSAL_CLASHES, 9);
+    same(planner_open(file, file_of(&batch, file), &record), PLANNER_REFUSAL_CLASHES);
     same_fill(&record, 0xA5, sizeof record);
 }
 
@@ -58,28 +58,28 @@ static void check_running(void) {
     same(open_text(C3, &memory.record), 0);
     for (k = 0; k < PLANNER_JOBS; k++) /* the jobs' padding */
         ((uint8_t *)&memory.record.batch.jobs[k])[1] = 0xA5;
-    refused_run(&memory, PLANNER_BUDGET + 1, 2, PLANNER_REFUSED_BUDGET, 11);
-    refused_run(&memory, 0xFFFFFFFF, 0, PLANNER_REFUSED_BUDGET, 11);
+    refused_run(&memory, PLANNER_BUDGET + 1, 2, PLANNER_REFUSAL_BUDGET, 11);
+    refused_run(&memory, 0xFFFFFFFF, 0, PLANNER_REFUSAL_BUDGET, 11);
     begin("13: one place too few in the starts, asked before 14");
-    refused_run(&memory, 1, 1, PLANNER_REFUSED_STARTS, 13);
-    refused_run(&memory, 1, 0, PLANNER_REFUSED_STARTS, 13);
+    refused_run(&memory, 1, 1, PLANNER_REFUSAL_STARTS, 13);
+    refused_run(&memory, 1, 0, PLANNER_REFUSAL_STARTS, 13);
     memory.record.total = PLANNER_TOTAL;
-    refused_run(&memory, 1, 1, PLANNER_REFUSED_STARTS, 13);
+    refused_run(&memory, 1, 1, PLANNER_REFUSAL_STARTS, 13);
     begin("14: total 99,999,999 and budget 2");
     memory.record.total = PLANNER_TOTAL - 1;
-    refused_run(&memory, 2, 2, PLANNER_REFUSED_TOTAL, 14);
+    refused_run(&memory, 2, 2, PLANNER_REFUSAL_TOTAL, 14);
     begin("12: total 100,000,001, asked before 13");
     memory.record.total = PLANNER_TOTAL + 1;
-    refused_run(&memory, 1, 2, PLANNER_REFUSED_RECORD, 12);
-    refused_run(&memory, 1, 0, PLANNER_REFUSED_RECORD, 12);
-    refused_run(&memory, PLANNER_BUDGET + 1, 0, PLANNER_REFUSED_BUDGET, 11);
+    refused_run(&memory, 1, 2, PLANNER_REFUSAL_RECORD, 12);
+    refused_run(&memory, 1, 0, PLANNER_REFUSAL_RECORD, 12);
+    refused_run(&memory, PLANNER_BUDGET + 1, 0, PLANNER_REFUSAL_BUDGET, 11);
     begin("12: records of one byte all over");
     fill(&memory, 0x00);
-    refused_run(&memory, 1, 2, PLANNER_REFUSED_RECORD, 12);
+    refused_run(&memory, 1, 2, PLANNER_REFUSAL_RECORD, 12);
     fill(&memory, 0x01);
-    refused_run(&memory, 1, 2, PLANNER_REFUSED_RECORD, 12);
+    refused_run(&memory, 1, 2, PLANNER_REFUSAL_RECORD, 12);
     fill(&memory, 0xFF);
-    refused_run(&memory, 1, 2, PLANNER_REFUSED_RECORD, 12);
+    refused_run(&memory, 1, 2, PLANNER_REFUSAL_RECORD, 12);
 }
 
 static void refused_text(planner_text got, int refusal, int number) {
@@ -94,16 +94,16 @@ static void check_writing(void) {
     memset(buffer, '.', sizeof buffer);
     begin("15: a plan text of a fresh search, asked before 16");
     same(open_text(C3, &record), 0);
-    refused_text(planner_write_plan(&record, buffer, sizeof buffer), PLANNER_REFUSED_UNENDED, 15);
-    refused_text(planner_write_plan(&record, buffer, 0), PLANNER_REFUSED_UNENDED, 15);
+    refused_text(planner_write_plan(&record, buffer, sizeof buffer), PLANNER_REFUSAL_UNENDED, 15);
+    refused_text(planner_write_plan(&record, buffer, 0), PLANNER_REFUSAL_UNENDED, 15);
     begin("16: buffers of no bytes");
-    refused_text(planner_write_batch(&record, buffer, 0), PLANNER_REFUSED_BUFFER, 16);
+    refused_text(planner_write_batch(&record, buffer, 0), PLANNER_REFUSAL_BUFFER, 16);
     same(run(&record, 3).kind, PLANNER_PLAN);
-    refused_text(planner_write_plan(&record, buffer, 0), PLANNER_REFUSED_BUFFER, 16);
+    refused_text(planner_write_plan(&record, buffer, 0), PLANNER_REFUSAL_BUFFER, 16);
     begin("12 of both texts, asked before 15 and 16");
     record.batch.n = 0;
-    refused_text(planner_write_plan(&record, buffer, 0), PLANNER_REFUSED_RECORD, 12);
-    refused_text(planner_write_batch(&record, buffer, 0), PLANNER_REFUSED_RECORD, 12);
+    refused_text(planner_write_plan(&record, buffer, 0), PLANNER_REFUSAL_RECORD, 12);
+    refused_text(planner_write_batch(&record, buffer, 0), PLANNER_REFUSAL_RECORD, 12);
     begin("a refused text leaves the buffer");
     same_fill(buffer, '.', sizeof buffer);
 }

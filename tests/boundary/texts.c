@@ -13,7 +13,7 @@ static void same_text(writer write, const planner_record *record, const uint8_t 
     memset(buffer, '.', sizeof buffer);
     got = write(record, buffer, length - 1);
     same((long)got.length, 0);
-    same(got.refusal, PLANNER_REFUSED_BUFFER);
+    same(got.refusal, PLANNER_REFUSAL_BUFFER);
     same_fill(buffer, '.', sizeof buffer);
     got = write(record, buffer, length);
     same((long)got.length, (long)length);

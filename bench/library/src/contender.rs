@@ -25,7 +25,7 @@ impl Contender for planner::Search {
     }
 
     fn advance(&mut self, budget: u32) {
-        self.run(budget).expect("the library continues a record of its own");
+        let _ = self.run(budget).expect("the library continues a record of its own");
     }
 
     fn state(&self) -> State {

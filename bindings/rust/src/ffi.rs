@@ -1,20 +1,6 @@
-//! The C interface as include/planner.h has it: the same structs by the same names, and the four functions.
+//! The C interface as include/planner.h has it: the same structs by the same names, the four calls, and the version.
+use crate::batch::{Delay, Job};
 use std::mem::{align_of, offset_of, size_of};
-
-#[repr(C)]
-#[derive(Clone, Copy, PartialEq, Eq)]
-pub struct Delay {
-    pub from: u8,
-    pub to: u8,
-    pub weight: i16,
-}
-
-#[repr(C)]
-#[derive(Clone, Copy, PartialEq, Eq)]
-pub struct Job {
-    pub ticks: u8,
-    pub masks: [u16; 16],
-}
 
 #[repr(C)]
 #[derive(Clone, PartialEq, Eq)]
@@ -78,6 +64,7 @@ impl Record {
 }
 
 extern "C" {
+    pub fn planner_version_1() -> u32;
     pub fn planner_open(file: *const u8, length: usize, record: *mut Record) -> u8;
     pub fn planner_run(record: *mut Record, budget: u32, starts: *mut u16, count: usize) -> Answer;
     pub fn planner_write_plan(record: *const Record, buffer: *mut u8, capacity: usize) -> Text;

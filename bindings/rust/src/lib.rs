@@ -24,15 +24,22 @@
 //! # Linking
 //!
 //! The build links `libplanner_c.a` from the folder that the environment variable `PLANNER_LIBRARY_DIR` names, else from the repository's
-//! `target/staticlib`, where `rt staticlib planner_c` leaves it. Linux on x86-64.
+//! `target/staticlib`, where `rt staticlib planner_c` leaves it. It is for Linux on x86-64 and stops for any other target. An archive of another
+//! version than [`VERSION`] does not link.
 #![warn(missing_docs)]
 
+mod batch;
 mod ffi;
+#[cfg(doctest)]
+mod misuse;
 mod refusal;
 
+pub use batch::{Delay, Job};
 pub use refusal::Refusal;
 use std::fmt;
 
+/// The version of the library that this crate calls. It rises whenever the record's layout, a number's meaning or a call changes.
+pub const VERSION: u32 = 1;
 /// The most jobs of a batch.
 pub const JOBS: usize = 24;
 /// The most nodes of one run.
@@ -45,6 +52,7 @@ pub const PLAN_TEXT: usize = 235;
 pub const BATCH_TEXT: usize = 3073;
 
 /// What a run came to. `total` is the number of nodes visited since the search was opened.
+#[must_use = "the answer says whether the search goes on"]
 #[derive(Clone, Copy, Debug, PartialEq, Eq, Hash)]
 pub enum Answer {
     /// The budget is used and the search goes on: run again.
@@ -67,7 +75,8 @@ pub enum Answer {
 }
 
 /// A start for each job, and the latency that comes of them.
-#[derive(Clone, Copy, Debug, PartialEq, Eq, Hash)]
+#[must_use]
+#[derive(Clone, Copy, PartialEq, Eq, Hash)]
 pub struct Plan {
     latency: u16,
     n: u8,
@@ -76,13 +85,21 @@ pub struct Plan {
 
 impl Plan {
     /// The latency: the largest start + ticks over the jobs.
+    #[must_use]
     pub fn latency(&self) -> u16 {
         self.latency
     }
 
     /// The starting tick of each job, in the order of the batch file.
+    #[must_use]
     pub fn starts(&self) -> &[u16] {
         &self.starts[..usize::from(self.n)]
+    }
+}
+
+impl fmt::Debug for Plan {
+    fn fmt(&self, out: &mut fmt::Formatter<'_>) -> fmt::Result {
+        out.debug_struct("Plan").field("latency", &self.latency()).field("starts", &self.starts()).finish()
     }
 }
 
@@ -93,13 +110,21 @@ pub struct Search {
 }
 
 impl Search {
-    /// Opens a batch file. Refusals 1 to 10.
+    /// Opens a batch file.
     ///
     /// ```
     /// use planner::{Refusal, Search};
     /// assert_eq!(Search::open(b"A0010000\n"), Err(Refusal::Count));
     /// ```
+    ///
+    /// # Errors
+    ///
+    /// Refusals 1 [`Line`](Refusal::Line), 2 [`Frame`](Refusal::Frame), 3 [`Edition`](Refusal::Edition), 4 [`Count`](Refusal::Count),
+    /// 5 [`Job`](Refusal::Job), 6 [`Weight`](Refusal::Weight), 7 [`Missing`](Refusal::Missing), 8 [`Extra`](Refusal::Extra),
+    /// 9 [`Clashes`](Refusal::Clashes) and 10 [`Delays`](Refusal::Delays). They are asked line by line, in a line 7 first and then 1 to 6; after
+    /// the last line 8, 9 and 10. The first whose condition holds is given.
     pub fn open(file: &[u8]) -> Result<Search, Refusal> {
+        assert_version();
         let mut record = ffi::Record::blank();
         // SAFETY: the file's pointer is valid for its length and not null, also where it is empty; the record is a local of the C layout.
         let refusal = unsafe { ffi::planner_open(file.as_ptr(), file.len(), &mut record) };
@@ -109,7 +134,10 @@ impl Search {
 
     /// Visits at most `budget` nodes. A search that has ended visits none and gives its result again.
     ///
-    /// Refusal 11 above [`BUDGET`]; refusal 14 if the search has not ended and its total would pass [`TOTAL`]. Then nothing is changed.
+    /// # Errors
+    ///
+    /// Refusal 11 [`Budget`](Refusal::Budget) above [`BUDGET`]; refusal 14 [`Total`](Refusal::Total) if the search has not ended and its total
+    /// would pass [`TOTAL`]. Then nothing is changed.
     pub fn run(&mut self, budget: u32) -> Result<Answer, Refusal> {
         let mut starts = [0u16; JOBS];
         // SAFETY: the record is ours alone by &mut; the starts are a local of that many places; neither overlaps the other.
@@ -118,7 +146,7 @@ impl Search {
         match answer.kind {
             ffi::SPENT => Ok(Answer::Spent { total: answer.total }),
             ffi::PLAN => {
-                debug_assert_eq!(starts[..self.jobs()], self.record.starts[..self.jobs()]);
+                debug_assert_eq!(starts[..self.jobs().len()], self.record.starts[..self.jobs().len()]);
                 Ok(Answer::Plan { latency: answer.latency, total: answer.total })
             }
             ffi::NO_PLAN => Ok(Answer::NoPlan { total: answer.total }),
@@ -127,38 +155,67 @@ impl Search {
     }
 
     /// The shortest plan, once the search has ended; none while it goes on, or where no valid plan exists.
+    #[must_use]
     pub fn plan(&self) -> Option<Plan> {
         self.best().filter(|_| self.has_ended())
     }
 
     /// The shortest plan known so far: valid, and maybe not yet the shortest.
+    #[must_use]
     pub fn best(&self) -> Option<Plan> {
         if self.record.found == 0 {
             return None;
         }
-        let mut starts = [0; JOBS];
-        starts[..self.jobs()].copy_from_slice(&self.record.starts[..self.jobs()]);
+        let (n, mut starts) = (self.jobs().len(), [0; JOBS]);
+        starts[..n].copy_from_slice(&self.record.starts[..n]);
         Some(Plan { latency: self.record.latency, n: self.record.batch.n, starts })
     }
 
     /// Nodes visited since the search was opened.
+    #[must_use]
     pub fn total(&self) -> u32 {
         self.record.total
     }
 
     /// Whether the search has ended.
+    #[must_use]
     pub fn has_ended(&self) -> bool {
         self.record.ended != 0
     }
 
-    /// The number of the batch's jobs.
-    pub fn jobs(&self) -> usize {
-        usize::from(self.record.batch.n)
+    /// The batch's jobs, in the order of the batch file.
+    ///
+    /// ```
+    /// let search = planner::Search::open(b"A0010200\nA1010001\nA103000100020002\n")?;
+    /// let [first, second] = search.jobs() else { panic!("the file has two jobs") };
+    /// assert_eq!((first.ticks(), first.masks()), (1, &[0x0001][..]));
+    /// assert_eq!((second.ticks(), second.masks()), (3, &[0x0001, 0x0002, 0x0002][..]));
+    /// # Ok::<(), planner::Refusal>(())
+    /// ```
+    #[must_use]
+    pub fn jobs(&self) -> &[Job] {
+        &self.record.batch.jobs[..usize::from(self.record.batch.n)]
+    }
+
+    /// The batch's delays, in the order of the batch file.
+    ///
+    /// ```
+    /// use planner::{Delay, Search};
+    /// let search = Search::open(b"A0010202\nA1010001\nA1010002\nA200010002\nA20100FFFC\n")?;
+    /// assert_eq!(search.delays(), [Delay { from: 0, to: 1, weight: 2 }, Delay { from: 1, to: 0, weight: -4 }]);
+    /// # Ok::<(), planner::Refusal>(())
+    /// ```
+    #[must_use]
+    pub fn delays(&self) -> &[Delay] {
+        &self.record.batch.delays[..usize::from(self.record.batch.m)]
     }
 
     /// Writes the plan text into the buffer's first bytes and gives their number; the rest of the buffer is left.
     ///
-    /// Refusal 15 if the search has not ended; refusal 16 if the buffer is too short ([`PLAN_TEXT`] bytes always do).
+    /// # Errors
+    ///
+    /// Refusal 15 [`Unended`](Refusal::Unended) if the search has not ended; refusal 16 [`Buffer`](Refusal::Buffer) if the buffer is too short
+    /// ([`PLAN_TEXT`] bytes always do). Then the buffer is left.
     pub fn write_plan(&self, buffer: &mut [u8]) -> Result<usize, Refusal> {
         // SAFETY: the record is only read; the buffer is ours alone by &mut, valid for its length and not null, also where it is empty.
         let text = unsafe { ffi::planner_write_plan(&self.record, buffer.as_mut_ptr(), buffer.len()) };
@@ -168,7 +225,9 @@ impl Search {
 
     /// Writes the batch file, as it was opened, into the buffer's first bytes and gives their number; the rest of the buffer is left.
     ///
-    /// Refusal 16 if the buffer is too short ([`BATCH_TEXT`] bytes always do).
+    /// # Errors
+    ///
+    /// Refusal 16 [`Buffer`](Refusal::Buffer) if the buffer is too short ([`BATCH_TEXT`] bytes always do). Then the buffer is left.
     pub fn write_batch(&self, buffer: &mut [u8]) -> Result<usize, Refusal> {
         // SAFETY: the record is only read; the buffer is ours alone by &mut, valid for its length and not null, also where it is empty.
         let text = unsafe { ffi::planner_write_batch(&self.record, buffer.as_mut_ptr(), buffer.len()) };
@@ -176,7 +235,11 @@ impl Search {
         Ok(text.length)
     }
 
-    /// The plan text as bytes of its own. Refusal 15 if the search has not ended.
+    /// The plan text as bytes of its own.
+    ///
+    /// # Errors
+    ///
+    /// Refusal 15 [`Unended`](Refusal::Unended) if the search has not ended.
     pub fn plan_text(&self) -> Result<Vec<u8>, Refusal> {
         let mut buffer = [0; PLAN_TEXT];
         let length = self.write_plan(&mut buffer)?;
@@ -184,6 +247,11 @@ impl Search {
     }
 
     /// The batch file as bytes of its own, as it was opened.
+    ///
+    /// # Errors
+    ///
+    /// None: the library's call refuses with 12 [`Record`](Refusal::Record) and 16 [`Buffer`](Refusal::Buffer), and a search is always sound and the
+    /// buffer here holds the longest text.
     pub fn batch_text(&self) -> Result<Vec<u8>, Refusal> {
         let mut buffer = [0; BATCH_TEXT];
         let length = self.write_batch(&mut buffer)?;
@@ -194,12 +262,19 @@ impl Search {
 impl fmt::Debug for Search {
     fn fmt(&self, out: &mut fmt::Formatter<'_>) -> fmt::Result {
         out.debug_struct("Search")
-            .field("jobs", &self.jobs())
+            .field("jobs", &self.jobs().len())
             .field("total", &self.total())
             .field("has_ended", &self.has_ended())
             .field("best", &self.best())
             .finish_non_exhaustive()
     }
+}
+
+/// Asks the library for its version. Who calls this refers to a name that an archive of another version has not.
+fn assert_version() {
+    // SAFETY: the call takes nothing and touches no memory.
+    let version = unsafe { ffi::planner_version_1() };
+    assert_eq!(version, VERSION, "the library has another version than its function's name says");
 }
 
 /// The library's refusal number as a result: 0 is none.

@@ -19,6 +19,7 @@ macro_rules! refusals {
             pub const ALL: [Refusal; 16] = [$(Refusal::$name,)*];
 
             /// The refusal's condition in words.
+            #[must_use]
             pub fn words(self) -> &'static str {
                 match self {
                     $(Refusal::$name => $words,)*
@@ -49,11 +50,13 @@ refusals! {
 
 impl Refusal {
     /// The refusal's number, 1 to 16.
+    #[must_use]
     pub fn number(self) -> u8 {
         self as u8
     }
 
     /// The refusal with this number; none outside 1 to 16.
+    #[must_use]
     pub fn from_number(number: u8) -> Option<Refusal> {
         Refusal::ALL.get(usize::from(number).checked_sub(1)?).copied()
     }

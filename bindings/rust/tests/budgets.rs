@@ -35,7 +35,7 @@ fn judged(file: &[u8], search: &Search, answer: Answer) {
             assert_eq!(Batch::of(file).fault(&plan), None);
             assert_eq!(plan.latency(), latency);
             assert_eq!(search.best(), Some(plan));
-            let mut due = format!("B001{:02X}{latency:04X}{total:08X}\n", search.jobs());
+            let mut due = format!("B001{:02X}{latency:04X}{total:08X}\n", search.jobs().len());
             for (job, start) in plan.starts().iter().enumerate() {
                 due += &format!("B1{job:02X}{start:04X}\n");
             }

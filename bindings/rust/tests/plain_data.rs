@@ -1,4 +1,4 @@
-//! A search is plain data: it can be cloned, sent to another thread, and shown.
+//! A search is plain data: it can be cloned, sent to another thread, and shown, and so can a plan and a job.
 use planner::{Answer, Search};
 
 const C3: &[u8] = b"A0010200\nA1010001\nA103000100020002\n";
@@ -6,7 +6,7 @@ const C3: &[u8] = b"A0010200\nA1010001\nA103000100020002\n";
 #[test]
 fn clones_go_apart() {
     let mut search = Search::open(C3).unwrap();
-    search.run(2).unwrap();
+    assert_eq!(search.run(2), Ok(Answer::Spent { total: 2 }));
     let mut clone = search.clone();
     assert_eq!(clone.run(1), Ok(Answer::Plan { latency: 3, total: 3 }));
     assert_eq!((search.total(), search.has_ended(), search.plan()), (2, false, None));
@@ -37,6 +37,19 @@ fn goes_to_other_threads() {
 #[test]
 fn shows_where_it_stands() {
     let mut search = Search::open(C3).unwrap();
-    search.run(1).unwrap();
+    assert_eq!(search.run(1), Ok(Answer::Spent { total: 1 }));
     assert_eq!(format!("{search:?}"), "Search { jobs: 2, total: 1, has_ended: false, best: None, .. }");
+    assert_eq!(search.run(2), Ok(Answer::Plan { latency: 3, total: 3 }));
+    assert_eq!(format!("{search:?}"), "Search { jobs: 2, total: 3, has_ended: true, best: Some(Plan { latency: 3, starts: [1, 0] }), .. }");
+}
+
+/// A plan shows the starts of its jobs, a job the masks of its ticks, and neither the places that are not used.
+#[test]
+fn shows_what_is_used() {
+    let mut search = Search::open(b"A0010201\nA10200018000\nA1010002\nA20001FC18\n").unwrap();
+    assert_eq!(search.run(1), Ok(Answer::Plan { latency: 2, total: 1 }));
+    assert_eq!(format!("{:?}", search.plan().unwrap()), "Plan { latency: 2, starts: [0, 0] }");
+    assert_eq!(format!("{:?}", search.jobs()), "[Job { masks: [1, 32768] }, Job { masks: [2] }]");
+    assert_eq!(format!("{:04X?}", search.jobs()[0]), "Job { masks: [0001, 8000] }");
+    assert_eq!(format!("{:?}", search.delays()), "[Delay { from: 0, to: 1, weight: -1000 }]");
 }

@@ -76,7 +76,7 @@ fn writing() {
     assert_eq!(search.plan_text(), Err(Refusal::Unended));
     assert_eq!(search.write_batch(&mut buffer[..34]), Err(Refusal::Buffer));
     assert_eq!(search.write_batch(&mut []), Err(Refusal::Buffer));
-    search.run(3).unwrap();
+    assert_eq!(search.run(3), Ok(Answer::Plan { latency: 3, total: 3 }));
     assert_eq!(search.write_plan(&mut buffer[..36]), Err(Refusal::Buffer));
     assert_eq!(search.write_plan(&mut []), Err(Refusal::Buffer));
     assert_eq!(buffer, [b'.'; 40], "a refused text leaves the buffer");

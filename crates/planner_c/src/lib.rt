@@ -1,5 +1,5 @@
 // The planner's calls for C: the caller keeps the record, plain numbers only, and lends it with its buffers. None asks anything of its caller
-// beyond valid memory. Each copies the record and makes the call by value; opening and running store what it yields.
+// beyond valid memory. Each copies the record and makes the call by value; opening and running store what it yields. The version stands apart.
 use calls::batch_text;
 use calls::open_record;
 use calls::plan_text;
@@ -15,6 +15,15 @@ ghost use Rattle.planner_c.specs.Calls.{openedRecord, ranRecord, written
 mod calls;
 mod records;
 mod replies;
+
+// The version of all that C sees here, a number that its name carries too: it rises whenever the record's layout, a number's meaning or a call changes,
+// and who was compiled for another version does not find this name.
+#[no_mangle]
+pub extern "C" fn planner_version_1() -> u32
+    ensures { λ r. ⌜ r ≡ 1 ⌝ }
+{
+    1
+}
 
 // Opens a batch file: 0 and the record of its fresh search, or the refusal, 1 to 10, which leaves the record as it was.
 #[no_mangle]

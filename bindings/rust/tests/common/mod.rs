@@ -21,7 +21,7 @@ pub fn batch_files(folder: &str) -> Vec<(String, Vec<u8>)> {
 }
 
 /// Jobs as lists of masks, delays as (from, to, weight).
-#[derive(Clone, Debug)]
+#[derive(Clone, Debug, PartialEq, Eq)]
 pub struct Batch {
     pub jobs: Vec<Vec<u16>>,
     pub delays: Vec<(usize, usize, i16)>,
