@@ -68,27 +68,27 @@ module _ (b : Batch) (passes : Passes b) (n : ℕ) (end : End b (fits b passes) 
   at k = nodes k (freshSearch b)
 
   pub at-batch : (k : ℕ) → at k .batch ≡ b
-  at-batch k = ap (λ (s : Search). s .batch) (nodes-fresh b (fits b passes) k) ∙ best-valid b (fits b passes) k .batch
+  at-batch k = ap (λ (s : Search). s .batch) (nodes-fresh b k) ∙ best-valid b (fits b passes) k .batch
 
   at-min : (k : ℕ) → at k ≡ at (min k n)
   at-min k = go (decLt k n)
     where
       go : Dec (k < n) → at k ≡ at (min k n)
       go (yes h) = let z : k ≡ min k n = omega arith in ap at z
-      go (no h) = let z : n ≡ min k n = omega arith in nodes-past b (fits b passes) n k (end .ends) (omega arith) ∙ ap at z
+      go (no h) = let z : n ≡ min k n = omega arith in nodes-past b n k (end .ends) (omega arith) ∙ ap at z
 
   -- j nodes on from k
   at-more : (k j : ℕ) → nodes j (at k) ≡ at (k + j)
   unfolding nodes
   at-more k j =
-      ap (λ (c : Batch). nodesOn (clashes c) j (at k)) (at-batch k) ∙ ap (nodesOn (clashes b) j) (nodes-fresh b (fits b passes) k)
-      ∙ sym (nodes-more b (fits b passes) k j (freshSearch b)) ∙ sym (nodes-fresh b (fits b passes) (k + j))
+      ap (λ (c : Batch). nodesOn (clashes c) j (at k)) (at-batch k) ∙ ap (nodesOn (clashes b) j) (nodes-fresh b k)
+      ∙ sym (nodes-more b k j (freshSearch b)) ∙ sym (nodes-fresh b (k + j))
 
   at-ended : (s : ℕ) → at (min s n) .ended ≡ not (ltb s n)
   at-ended s = go (ltb s n) refl
     where
       go : (p : Bool) → ltb s n ≡ p → at (min s n) .ended ≡ not p
-      go true e = ends-not-before b (fits b passes) n (min s n) (end .ends) (omega (arith, ltb-true s n e))
+      go true e = ends-not-before b n (min s n) (end .ends) (omega (arith, ltb-true s n e))
       go false e = let z : min s n ≡ n = omega (arith, ltb-false s n e) in ap (λ (k : ℕ). at k .ended) z ∙ end .ends .ended
 
   at-total : (s : ℕ) → at (min s n) .total ≡ min s n
@@ -96,10 +96,10 @@ module _ (b : Batch) (passes : Passes b) (n : ℕ) (end : End b (fits b passes) 
     where
       go : Dec (s < n) → at (min s n) .total ≡ min s n
       go (yes h) =
-          let e = nodes-fresh b (fits b passes) (min s n) in
+          let e = nodes-fresh b (min s n) in
           ap (λ (r : Search). r .total) e
-          ∙ nodes-total b (fits b passes) (min s n) (freshSearch b) .1
-          (ap (λ (r : Search). r .ended) (sym e) ∙ ends-not-before b (fits b passes) n (min s n) (end .ends) (omega arith))
+          ∙ nodes-total b (min s n) (freshSearch b) .1
+          (ap (λ (r : Search). r .ended) (sym e) ∙ ends-not-before b n (min s n) (end .ends) (omega arith))
           ∙ omega (arith, fresh-total b)
       go (no h) = let z : min s n ≡ n = omega arith in ap (λ (k : ℕ). at k .total) z ∙ end .ends .total ∙ sym z
 

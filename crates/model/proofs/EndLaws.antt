@@ -48,13 +48,17 @@ pub turns-path : (ts : List Turn) → ((t : Turn) → List·Memᴰ t ts → t .c
 unfolding turnsOf pad
 turns-path ts h = upTo-blank ts (mostClashes - length ts) (λ t m. named-turn t (h t m))
 
-module _ (b : Batch) (fits : Fits b) where
-  pub place-search : (total : ℕ) (q : Place) → GoodTurns b (q .turns) → placeOf (searchOf b total q) ≡ q
-  unfolding placeOf searchOf Named
-  place-search total q g =
-      ap (λ (l : List Turn). record { turns = l; incumbent = q .incumbent; ended = q .ended })
-      (turns-path (q .turns) (λ t m. omega (arith, good-named b (q .turns) g t m, fits .few)))
+-- ---- nodes on any batch, and N: before it the search has not ended, and from it on nothing changes
 
+pub fresh-ended : (b : Batch) → freshSearch b .ended ≡ false
+unfolding freshSearch searchOf freshPlace
+fresh-ended b = refl
+
+pub fresh-total : (b : Batch) → freshSearch b .total ≡ 0
+unfolding freshSearch searchOf freshPlace
+fresh-total b = refl
+
+module _ (b : Batch) where
   nodes-suc : (k : ℕ) (s : Search) → s .ended ≡ false → nodesOn (clashes b) (suc k) s ≡ nodesOn (clashes b) k (node (clashes b) s)
   unfolding nodesOn
   nodes-suc k s e = rw e
@@ -91,6 +95,59 @@ module _ (b : Batch) (fits : Fits b) where
       go : (p : Bool) → s .ended ≡ p → nodesOn (clashes b) (j + k) (node (clashes b) s) ≡ nodesOn (clashes b) k (nodesOn (clashes b) j (node (clashes b) s)) → _≡_ {A = Search} (elim p [ true ↦ s | false ↦ nodesOn (clashes b) (j + k) (node (clashes b) s) ]) (nodesOn (clashes b) k (elim p [ true ↦ s | false ↦ nodesOn (clashes b) j (node (clashes b) s) ]))
       go true e r = sym (nodes-ended k s e)
       go false e r = r
+
+  pub nodes-fresh : (k : ℕ) → nodes k (freshSearch b) ≡ nodesOn (clashes b) k (freshSearch b)
+  unfolding nodes freshSearch searchOf
+  nodes-fresh k = refl
+
+  pub nodes-past : (n k : ℕ) → Ends b n → n ≤ k → nodes k (freshSearch b) ≡ nodes n (freshSearch b)
+  unfolding nodes freshSearch searchOf
+  nodes-past n k e h =
+      ap (λ (i : ℕ). nodesOn (clashes b) i (freshSearch b)) (split h)
+      ∙ nodes-more n (k - n) (freshSearch b) ∙ nodes-ended (k - n) (nodesOn (clashes b) n (freshSearch b)) (e .ended)
+    where
+      split : n ≤ k → k ≡ n + (k - n)
+      split h = omega arith
+
+  total-most : (k : ℕ) → nodes k (freshSearch b) .total ≤ k
+  total-most k =
+      omega (arith, nodes-total k (freshSearch b) .0, fresh-total b, ap (λ (s : Search). s .total) (nodes-fresh k))
+
+  pub ends-least : (n m : ℕ) → Ends b n → nodes m (freshSearch b) .ended ≡ true → n ≤ m
+  ends-least n m e h = go (decLe n m)
+    where
+      at-m : ¬ (n ≤ m) → nodes n (freshSearch b) ≡ nodes m (freshSearch b)
+      at-m g =
+          nodes-fresh n ∙ ap (λ (i : ℕ). nodesOn (clashes b) i (freshSearch b)) (split g) ∙ nodes-more m (n - m) (freshSearch b)
+          ∙ nodes-ended (n - m) (nodesOn (clashes b) m (freshSearch b)) (ap (λ (s : Search). s .ended) (sym (nodes-fresh m)) ∙ h)
+          ∙ sym (nodes-fresh m)
+        where
+          split : ¬ (n ≤ m) → n ≡ m + (n - m)
+          split g = omega arith
+
+      go : Dec (n ≤ m) → n ≤ m
+      go (yes g) = g
+      go (no g) = absurd (omega (arith, e .total, ap (λ (s : Search). s .total) (at-m g), total-most m))
+
+  pub ends-unique : (n m : ℕ) → Ends b n → Ends b m → m ≡ n
+  ends-unique n m e f = omega (arith, ends-least n m e (f .ended), ends-least m n f (e .ended))
+
+  -- the search has not ended before N
+  pub ends-not-before : (n k : ℕ) → Ends b n → k < n → nodes k (freshSearch b) .ended ≡ false
+  ends-not-before n k e h = go (nodes k (freshSearch b) .ended) refl
+    where
+      go : (p : Bool) → nodes k (freshSearch b) .ended ≡ p → p ≡ false
+      go true g = absurd (omega (arith, ends-least n k e g))
+      go false g = refl
+
+-- ---- the places that are reached
+
+module _ (b : Batch) (fits : Fits b) where
+  pub place-search : (total : ℕ) (q : Place) → GoodTurns b (q .turns) → placeOf (searchOf b total q) ≡ q
+  unfolding placeOf searchOf Named
+  place-search total q g =
+      ap (λ (l : List Turn). record { turns = l; incumbent = q .incumbent; ended = q .ended })
+      (turns-path (q .turns) (λ t m. omega (arith, good-named b (q .turns) g t m, fits .few)))
 
 -- I is what is kept of best, as in GoodLaws
 module _ (b : Batch) (fits : Fits b) (I : Incumbent → Type 0) (new : (ts : List Turn) → Named b ts → (ss : List ℕ) → startsAt (clashes b) b ts ≡ some ss → firstMet (clashes b) ss 0 ≡ none → I (becomeBest b ss)) where
@@ -136,7 +193,7 @@ module _ (b : Batch) (fits : Fits b) (I : Incumbent → Type 0) (new : (ts : Lis
 
   one-node : (s : Search) → s .ended ≡ false → nodesOn (clashes b) 1 s ≡ node (clashes b) s
   unfolding nodesOn
-  one-node s e = nodes-suc b fits 0 s e
+  one-node s e = nodes-suc b 0 s e
 
   pub finishes : (m : ℕ) (s : Search) → At s → s .ended ≡ false → left (length (clashes b)) (placeOf s .turns) ≤ m → Finished s m
   finishes zero s a e h = absurd (omega (arith, left-pos (length (clashes b)) (placeOf s .turns)))
@@ -150,8 +207,8 @@ module _ (b : Batch) (fits : Fits b) (I : Incumbent → Type 0) (new : (ts : Lis
           record {
             k = suc (f .k);
             few-nodes = omega (arith, f .few-nodes);
-            ended = ap (λ (x : Search). x .ended) (nodes-suc b fits (f .k) s e) ∙ f .ended;
-            total = ap (λ (x : Search). x .total) (nodes-suc b fits (f .k) s e) ∙ f .total ∙ omega (arith, node-total b fits s);
+            ended = ap (λ (x : Search). x .ended) (nodes-suc b (f .k) s e) ∙ f .ended;
+            total = ap (λ (x : Search). x .total) (nodes-suc b (f .k) s e) ∙ f .total ∙ omega (arith, node-total b s);
           }
 
       go : (q .ended ≡ true) ⊎ ((q .ended ≡ false) × (left (length (clashes b)) (q .turns) < left (length (clashes b)) (placeOf s .turns))) → (node (clashes b) s .ended ≡ false → left (length (clashes b)) (placeOf (node (clashes b) s) .turns) ≤ m → Finished (node (clashes b) s) m) → Finished s (suc m)
@@ -160,7 +217,7 @@ module _ (b : Batch) (fits : Fits b) (I : Incumbent → Type 0) (new : (ts : Lis
             k = 1;
             few-nodes = omega arith;
             ended = ap (λ (x : Search). x .ended) (one-node s e) ∙ node-ended s a ∙ d;
-            total = ap (λ (x : Search). x .total) (one-node s e) ∙ node-total b fits s;
+            total = ap (λ (x : Search). x .total) (one-node s e) ∙ node-total b s;
           }
       go (inr d) rec =
           later
@@ -183,14 +240,6 @@ module _ (b : Batch) (fits : Fits b) (I : Incumbent → Type 0) (new : (ts : Lis
     fresh-at = record { batch = refl; good = subst (Good b fits I new) (sym fresh-place) fresh-good }
 
 -- ---- the end of a fresh search, with a best that is a valid plan
-
-pub fresh-ended : (b : Batch) → freshSearch b .ended ≡ false
-unfolding freshSearch searchOf freshPlace
-fresh-ended b = refl
-
-pub fresh-total : (b : Batch) → freshSearch b .total ≡ 0
-unfolding freshSearch searchOf freshPlace
-fresh-total b = refl
 
 module _ (b : Batch) (fits : Fits b) where
   none-valid : ValidBest b (freshPlace .incumbent)
@@ -234,10 +283,6 @@ module _ (b : Batch) (fits : Fits b) where
     pub valid : ValidBest b (placeOf (nodes n (freshSearch b)) .incumbent)
     pub shortest : (us : List ℕ) → Valid b us → BestLe b fits (nodes n (freshSearch b) .best) (latency b us)
 
-  pub nodes-fresh : (k : ℕ) → nodes k (freshSearch b) ≡ nodesOn (clashes b) k (freshSearch b)
-  unfolding nodes freshSearch searchOf
-  nodes-fresh k = refl
-
   pub search-ends : (n : ℕ) × End n
   unfolding nodes tree left placeOf freshSearch searchOf freshPlace nodeLimit
   search-ends =
@@ -253,45 +298,3 @@ module _ (b : Batch) (fits : Fits b) where
     where
       open-at-first : left (length (clashes b)) (placeOf (freshSearch b) .turns) ≡ tree (length (clashes b))
       open-at-first = ap (λ (p : Place). left (length (clashes b)) (p .turns)) (fresh-place b fits (ValidBest b) (valid-new b fits) none-valid)
-
-  -- ---- N is unique: before it the search has not ended, and from it on nothing changes
-
-  pub nodes-past : (n k : ℕ) → Ends b n → n ≤ k → nodes k (freshSearch b) ≡ nodes n (freshSearch b)
-  unfolding nodes freshSearch searchOf
-  nodes-past n k e h =
-      ap (λ (i : ℕ). nodesOn (clashes b) i (freshSearch b)) (split h)
-      ∙ nodes-more b fits n (k - n) (freshSearch b) ∙ nodes-ended b fits (k - n) (nodesOn (clashes b) n (freshSearch b)) (e .ended)
-    where
-      split : n ≤ k → k ≡ n + (k - n)
-      split h = omega arith
-
-  total-most : (k : ℕ) → nodes k (freshSearch b) .total ≤ k
-  total-most k =
-      omega (arith, nodes-total b fits k (freshSearch b) .0, fresh-total b, ap (λ (s : Search). s .total) (nodes-fresh k))
-
-  pub ends-least : (n m : ℕ) → Ends b n → nodes m (freshSearch b) .ended ≡ true → n ≤ m
-  ends-least n m e h = go (decLe n m)
-    where
-      at-m : ¬ (n ≤ m) → nodes n (freshSearch b) ≡ nodes m (freshSearch b)
-      at-m g =
-          nodes-fresh n ∙ ap (λ (i : ℕ). nodesOn (clashes b) i (freshSearch b)) (split g) ∙ nodes-more b fits m (n - m) (freshSearch b)
-          ∙ nodes-ended b fits (n - m) (nodesOn (clashes b) m (freshSearch b)) (ap (λ (s : Search). s .ended) (sym (nodes-fresh m)) ∙ h)
-          ∙ sym (nodes-fresh m)
-        where
-          split : ¬ (n ≤ m) → n ≡ m + (n - m)
-          split g = omega arith
-
-      go : Dec (n ≤ m) → n ≤ m
-      go (yes g) = g
-      go (no g) = absurd (omega (arith, e .total, ap (λ (s : Search). s .total) (at-m g), total-most m))
-
-  pub ends-unique : (n m : ℕ) → Ends b n → Ends b m → m ≡ n
-  ends-unique n m e f = omega (arith, ends-least n m e (f .ended), ends-least m n f (e .ended))
-
-  -- the search has not ended before N
-  pub ends-not-before : (n k : ℕ) → Ends b n → k < n → nodes k (freshSearch b) .ended ≡ false
-  ends-not-before n k e h = go (nodes k (freshSearch b) .ended) refl
-    where
-      go : (p : Bool) → nodes k (freshSearch b) .ended ≡ p → p ≡ false
-      go true g = absurd (omega (arith, ends-least n k e g))
-      go false g = refl

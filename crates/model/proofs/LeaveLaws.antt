@@ -87,7 +87,7 @@ listed true (Latency m) total n starts list =
     }
 
 -- a run that is not refused continues a sound record, within its limit
-run-sound : (s : Search) (budget len : ℕ) → runRefusal s budget len ≡ accept tt → (sound s ≡ true) × ((s .ended ≡ true) ⊎ (s .total + budget ≤ mostTotal))
+pub run-sound : (s : Search) (budget len : ℕ) → runRefusal s budget len ≡ accept tt → (sound s ≡ true) × ((s .ended ≡ true) ⊎ (s .total + budget ≤ mostTotal))
 unfolding runRefusal require
 run-sound s budget len e =
     let f = require-accepts 11 (leb budget mostBudget) _ tt e in

@@ -183,7 +183,7 @@ module _ (file : List ℕ) (b : Batch) (f : BatchFile file b) where
   unfolding placeOf
   best-plans cs =
       let a = after-list cs in
-      subst (λ (s : Search). (l : ℕ) → bestTold (s .best) ≡ some l → PlanWith b (s .starts) l) (sym (a .is ∙ nodes-fresh b (fits b passes) (a .k)))
+      subst (λ (s : Search). (l : ℕ) → bestTold (s .best) ≡ some l → PlanWith b (s .starts) l) (sym (a .is ∙ nodes-fresh b (a .k)))
       (valid-best _ _ (best-valid b (fits b passes) (a .k) .good .best))
 
   -- an answer with a plan is best's, and its starts are the list's first n places

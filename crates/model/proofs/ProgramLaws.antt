@@ -1,28 +1,26 @@
 -- The program: it never takes more than 101 runs with budgets of 1,000,000. So the 101 runs of the definition are "until an answer other than spent".
 use Prim.Native.Nat.{ℕ, zero, suc, _+_, _*_, _≤_, _<_}
 use mathlib.Core.Path.{_≡_, refl, ap, sym, _∙_}
-use mathlib.Core.Bool.{Bool, true, false, _||_}
+use mathlib.Core.Bool.{Bool, true, false}
+use mathlib.Core.Logic.{_⊎_, inl, inr}
 use mathlib.Core.List.{List}
 use native.Mathlib.Omega.{arith}
 use lib.ListN.{length, replicate}
-use lib.Dec.{leb}
-use borrow.Author.Tests.{leb-true}
 use Rattle.model.specs.declared.Batch.{Batch}
 use Rattle.model.specs.declared.Best.{Best}
 use Rattle.model.specs.declared.Best.the-variants.{Nothing, Latency}
 use Rattle.model.specs.declared.Search.{Search}
 use Rattle.model.specs.declared.Ran.{Ran}
-use Rattle.model.specs.Common.{Outcome, refuse, accept, _>>=_, require}
+use Rattle.model.specs.Common.{Outcome, refuse, accept, _>>=_}
 use Rattle.model.specs.Limits.{mostJobs, mostBudget, mostTotal}
 use Rattle.model.specs.Search.{nodesOn, nodes, freshSearch}
-use Rattle.model.specs.Sound.{sound}
 use Rattle.model.specs.Run.{runRefusal, answerOf, answered, ranAs, ran}
 use Rattle.model.specs.Answers.{Verdict, spent, plan, noPlan, runTold}
 use Rattle.model.specs.Program.{goOn, planned}
 use Rattle.model.proofs.BoolLaws.{apart}
-use Rattle.model.proofs.OutcomeLaws.{refused, require-accepts}
-use Rattle.model.proofs.SoundLaws.{record-passes, fits}
+use Rattle.model.proofs.OutcomeLaws.{refused}
 use Rattle.model.proofs.EndLaws.{nodes-total, fresh-total}
+use Rattle.model.proofs.LeaveLaws.{run-sound}
 
 -- ---- a spent run uses up its budget
 
@@ -43,35 +41,22 @@ open-before (suc k) s e = go (s .ended) refl
     go false q = q
     go true q = apart (sym (rw q at e))
 
--- what a run that is not refused has passed
-passed : (k : ℕ) (t : Bool) (u : Unit {0}) → require k t ≡ accept u → t ≡ true
-unfolding require
-passed k true u h = refl
-passed k false u h = refused h
-
-run-passed : (s : Search) (budget places : ℕ) (u : Unit {0}) → runRefusal s budget places ≡ accept u → (sound s ≡ true) × ((s .ended || leb (s .total + budget) mostTotal) ≡ true)
-unfolding runRefusal
-run-passed s budget places u e =
-    let a = require-accepts 11 (leb budget mostBudget) _ u e in
-    let b = require-accepts 12 (sound s) _ u (a .1) in
-    let c = require-accepts 13 (leb (s .batch .n) places) _ u (b .1) in
-    (b .0, passed 14 (s .ended || leb (s .total + budget) mostTotal) u (c .1))
-
 -- so total rises by the budget, and stays within its limit
 spent-total : (s : Search) (budget : ℕ) (list : List ℕ) (t : ℕ) → runTold (ran s budget list .0 .answer) ≡ accept (spent t)
     → (ran s budget list .0 .search .total ≡ s .total + budget) × (s .total + budget ≤ 100000000)
 unfolding ran ranAs answered runTold nodes
 spent-total s budget list t h = by (runRefusal s budget (length list)) refl h
   where
+    room : s .ended ≡ false → (s .ended ≡ true) ⊎ (s .total + budget ≤ mostTotal) → s .total + budget ≤ 100000000
+    room g (inl h) = apart (sym g ∙ h)
+    room g (inr h) = h
+
     by : (o : Outcome (Unit {0})) → runRefusal s budget (length list) ≡ o → runTold (ranAs o s budget list .0 .answer) ≡ accept (spent t)
         → (ranAs o s budget list .0 .search .total ≡ s .total + budget) × (s .total + budget ≤ 100000000)
     by (refuse k) e h = refused h
     by (accept u) e h =
         let going = spent-open (nodes budget s .ended) (nodes budget s .best) (nodes budget s .total) t h in
-        let ok = run-passed s budget (length list) u e in (
-          nodes-total (s .batch) (fits (s .batch) (record-passes s (ok .0))) budget s .1 going,
-          leb-true (s .total + budget) mostTotal (rw (open-before budget s going) at (ok .1)),
-        )
+        (nodes-total (s .batch) budget s .1 going, room (open-before budget s going) (run-sound s budget (length list) e .1))
 
 -- ---- so 101 runs are enough
 

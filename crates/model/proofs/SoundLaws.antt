@@ -257,7 +257,7 @@ record-passes s e =
 -- an ended search stays as it is; one that has not ended may use what is left of its total
 pub sound-nodes : (k : ℕ) (s : Search) → sound s ≡ true → (s .ended ≡ true) ⊎ (s .total + k ≤ mostTotal) → sound (nodes k s) ≡ true
 unfolding nodes
-sound-nodes k s e (inl h) = ap sound (nodes-ended (s .batch) (fits (s .batch) (record-passes s e)) k s h) ∙ e
+sound-nodes k s e (inl h) = ap sound (nodes-ended (s .batch) k s h) ∙ e
 sound-nodes k s e (inr h) = nodes-sound (s .batch) (record-passes s e) k s refl e h
 
 -- a sound record's turns fit its path

@@ -1,11 +1,10 @@
 -- Demands 1, 2 and 3 of the public calls: what the contracts say of the results makes them the definitions' results, of which model's laws show the demands.
-use Prim.Native.Nat.{ℕ, _≤_}
+use Prim.Native.Nat.{ℕ}
 use mathlib.Core.Path.{_≡_, refl, ap, sym, _∙_, subst}
 use mathlib.Core.Logic.{_↔_}
 use mathlib.Core.Bool.{true}
 use mathlib.Core.Option.{some}
-use mathlib.Core.List.{List, [], _∷_, _++_}
-use lib.ListN.{length, drop}
+use mathlib.Core.List.{List}
 use Rattle.model.specs.declared.Batch.{Batch}
 use Rattle.model.specs.declared.Search.{Search}
 use Rattle.model.specs.declared.Opened.{Opened}
@@ -17,7 +16,7 @@ use Rattle.model.specs.Format.{BatchFile}
 use Rattle.model.specs.Open.{opened}
 use Rattle.model.specs.Run.{ran}
 use Rattle.model.specs.Text.{planLines, planText, batchText, written}
-use Rattle.model.specs.Answers.{plan, runTold, openTold, writeTold, bestTold}
+use Rattle.model.specs.Answers.{plan, runTold, openTold, bestTold}
 use Rattle.model.specs.Calls.{Call, call, after, granted}
 use Rattle.model.specs.Demands.{OpeningLeaves, RunLeaves, WritingLeaves, PlanWith, Reached}
 use Rattle.model.proofs.SoundLaws.{Passes, fits}
@@ -88,7 +87,7 @@ module _ (file : List ℕ) (b : Batch) (f : BatchFile file b) where
       record {
         N = N;
         ends = end .ends;
-        only = λ m h. ends-unique b (fits b passes) N m (end .ends) h;
+        only = λ m h. ends-unique b N m (end .ends) h;
         bound = end .bound;
         lists = λ cs s h.
             record {
