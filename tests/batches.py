@@ -1,4 +1,6 @@
-"""Random batches, running a program, and the words of a test's command line. A batch is (jobs, delays): jobs are lists of masks."""
+"""Random batches, running a program, calls and their answers, and the words of a test's command line.
+
+A batch is (jobs, delays): jobs are lists of masks."""
 import os
 import subprocess
 import sys
@@ -12,6 +14,23 @@ def output(program, data, seconds=SECONDS):
         return subprocess.run(program, input=data, capture_output=True, timeout=seconds).stdout
     except subprocess.TimeoutExpired:
         return b"no end in %d seconds" % seconds
+
+
+def answers(program, calls):
+    """The answer lines to a list of calls, all in one process."""
+    text = "".join(call + "\n" for call in calls).encode()
+    return output(program, text, 20 * SECONDS).decode("latin-1").split("\n")[:-1]
+
+
+def opening(data):
+    """The call that opens a file."""
+    return ("O " + data.hex().upper()).strip()
+
+
+def ending_soon(calls, files):
+    """Of files as (kind, bytes) those that are refused or end within 20,000 nodes, as a program for calls answers."""
+    ends = answers(calls, [call for _, data in files for call in (opening(data), "R 20000 24")])[1::2]
+    return [one for one, end in zip(files, ends) if not end.startswith("R S")]
 
 
 def words_of(usage):

@@ -2,22 +2,25 @@
 
 usage: compare.py PLAN CALLS INDEPENDENT COUNTS     COUNTS gets the numbers of right and wrong cases"""
 import random
-import sys
 from collections import Counter, namedtuple
+from concurrent.futures import ThreadPoolExecutor
 
-from batches import SECONDS, clash_count, joined, lines, output, words_of
+from batches import answers, clash_count, ending_soon, joined, lines, opening, output, words_of
 from files import all_files, past_the_cut, some_batch
-from lists import TEXTS, all_lists, opening
+from lists import TEXTS, all_lists
+from tally import Tally
 
 Known = namedtuple("Known", "data n m clashes total plan")
 DUE = ["O %d" % k for k in range(11)] + ["R S", "R P", "R N", "R F 11", "R F 12", "R F 13", "R F 14", "P W", "P F 12",
                                          "P F 15", "P F 16", "B W", "B F 12", "B F 16", "D", "S"]
-
-
-def answers(program, calls):
-    """The answer lines to a list of calls, all in one process."""
-    text = "".join(call + "\n" for call in calls).encode()
-    return output(program, text, 20 * SECONDS).decode("latin-1").split("\n")[:-1]
+# The clauses of soundness by the names that the independent program gives them. For each, so many lists must make a
+# call on a record that breaks this clause and no other: a planner without the clause gives them another answer.
+CLAUSES = ["n below 1", "n above 24", "m above 128", "p below 1", "p above 16", "from of n or above",
+           "to of n or above", "from = to", "w below -1,000", "w above 1,000", "D above 1,024",
+           "delays that cannot be met", "a clash that is not listed", "a side above 1", "one clash twice",
+           "a turn after an empty place", "a turn while ended", "total above 100,000,000", "a start above 23,000",
+           "latency above 23,016"]
+FEWEST = 10
 
 
 def known_batches(rng, independent):
@@ -28,7 +31,16 @@ def known_batches(rng, independent):
     for (jobs, delays), answer in zip(made, answers(independent, calls)[1::2]):
         words = answer.split(" :")[0].split()
         if words[1] in "PN":
-            yield Known(joined(lines(jobs, delays)), len(jobs), len(delays), clash_count(jobs), int(words[-1]), words[1] == "P")
+            data = joined(lines(jobs, delays))
+            yield Known(data, len(jobs), len(delays), clash_count(jobs), int(words[-1]), words[1] == "P")
+
+
+def in_cases(cases, given):
+    """The answers that were given to all calls, case by case: (kind, calls, answers)."""
+    place = 0
+    for kind, listed in cases:
+        yield kind, listed, given[place:place + len(listed)]
+        place += len(listed)
 
 
 def kind_of(answer):
@@ -37,36 +49,49 @@ def kind_of(answer):
     return " ".join(words[:3] if words[1:2] == ["F"] else words[:1] if words[0] == "D" else words[:2])
 
 
-def main():
-    plan, calls, own, counts = words_of("compare.py PLAN CALLS INDEPENDENT COUNTS")
-    independent = [own, "calls"]
-    rng = random.Random(1)
-    right, wrong, seen = Counter(), Counter(), Counter()
-
-    def note(kind, same, asked, due, got):
-        right[kind] += same
-        wrong[kind] += not same
-        if not same and wrong[kind] <= 2:
-            print("  wrong: %s: %s\n    due %.400s\n    got %.400s" % (kind, asked, due, got))
-
-    files = all_files(rng)
-    cases = [("file: " + kind, [opening(data), "R 40 24", "R 200 25"] + TEXTS) for kind, data in files]
-    cases += [("list: " + kind, listed) for kind, listed in all_lists(rng, list(known_batches(rng, independent)))]
-    every = [call for _, listed in cases for call in listed]
-    due, got = answers(independent, every), answers([calls], every)
-    if not len(due) == len(got) == len(every):
-        note("number of answers", False, "%d calls" % len(every), len(due), len(got))
-    place = 0
-    for kind, listed in cases:
-        mine, theirs = due[place:place + len(listed)], got[place:place + len(listed)]
-        place += len(listed)
-        seen.update(map(kind_of, mine))
+def compare_answers(tally, cases, due, got):
+    calls = sum(len(listed) for _, listed in cases)
+    if not len(due) == len(got) == calls:
+        tally.note("number of answers", False, "%d calls" % calls, len(due), len(got))
+    for (kind, listed, mine), (_, _, theirs) in zip(in_cases(cases, due), in_cases(cases, got)):
         k = next((k for k, (a, b) in enumerate(zip(mine, theirs)) if a != b), len(theirs))
         same = mine == theirs and k == len(listed)
-        note(kind, same, " ; ".join(listed[:k + 1])[-300:], mine[k:k + 1], theirs[k:k + 1])
-    # PLAN itself: files of every kind that end soon, input past 65,536 bytes, and a batch that takes more than one run of 1,000,000 nodes.
-    ends = answers(independent, [call for _, data in files for call in (opening(data), "R 20000 24")])[1::2]
-    soon = [one for one, end in zip(files, ends) if not end.startswith("R S")]
+        tally.note(kind, same, " ; ".join(listed[:k + 1])[-300:], mine[k:k + 1], theirs[k:k + 1])
+
+
+def check_kinds(tally, due):
+    """Every kind of answer came, and no other."""
+    seen = Counter(map(kind_of, due))
+    for kind in DUE:
+        if not seen[kind]:
+            tally.note("answers that never came", False, kind, "", "")
+    for kind in set(seen) - set(DUE):
+        tally.note("calls out of form", False, kind, "", "")
+    print("  answers: " + ", ".join("%s: %d" % (kind, seen[kind]) for kind in sorted(seen)))
+
+
+def asks_soundness(call):
+    """Whether the answer is another for a record that is not sound; a budget that is too large is refused before."""
+    words = call.split()
+    return words[0] in "PB" or words[0] == "R" and int(words[1]) <= 1000000
+
+
+def check_clauses(tally, lists, said):
+    """For each clause of soundness, enough lists ask it of a record that breaks this clause alone."""
+    seen = Counter()
+    for _, listed, names in in_cases(lists, said):
+        seen.update({name[2:] for call, name in zip(listed, names) if asks_soundness(call)})
+    for name in CLAUSES:
+        if seen[name] < FEWEST:
+            tally.note("clauses asked too seldom", False, name, "%d lists" % FEWEST, seen[name])
+    for name in {part for names in seen for part in names.split("; ")} - set(CLAUSES) - {"sound"}:
+        tally.note("clauses out of form", False, name, "", "")
+    print("  lists that break one clause alone: " + "; ".join("%s: %d" % (name, seen[name]) for name in CLAUSES))
+
+
+def compare_plan(tally, rng, plan, own, files):
+    """PLAN itself: files of every kind that end soon, input past 65,536 bytes, and a batch that takes two runs."""
+    soon = ending_soon([own, "calls"], files)
     rng.shuffle(soon)
     chosen = [("past the cut", data) for data in past_the_cut()]
     with open("../bench/batches/twelve.batch", "rb") as file:
@@ -75,17 +100,26 @@ def main():
         chosen += [one for one in soon if one[0] == kind][:100 if kind == "valid" else 20]
     for kind, data in chosen:
         due, got = output([own, "plan"], data), output([plan], data)
-        note("PLAN: " + kind, due == got, data[:200], due, got)
-    for kind in DUE:
-        if not seen[kind]:
-            note("answers that never came", False, kind, "", "")
-    for kind in set(seen) - set(DUE):
-        note("calls out of form", False, kind, "", "")
-    for kind in sorted(right):
-        print("  %-32s %5d same, %d other" % (kind, right[kind], wrong[kind]))
-    print("  answers: " + ", ".join("%s: %d" % (kind, seen[kind]) for kind in sorted(seen)))
-    with open(counts, "w") as file:
-        file.write("%d %d\n" % (sum(right.values()), sum(wrong.values())))
+        tally.note("PLAN: " + kind, due == got, data[:200], due, got)
+
+
+def main():
+    plan, calls, own, counts = words_of("compare.py PLAN CALLS INDEPENDENT COUNTS")
+    rng, tally = random.Random(1), Tally()
+    files = all_files(rng)
+    known = list(known_batches(rng, [own, "calls"]))
+    lists = [("list: " + kind, listed) for kind, listed in all_lists(rng, known)]
+    cases = [("file: " + kind, [opening(data), "R 40 24", "R 200 25"] + TEXTS) for kind, data in files] + lists
+    every = [call for _, listed in cases for call in listed]
+    asked = [call for _, listed in lists for call in listed]
+    with ThreadPoolExecutor() as pool:  # the programs, side by side
+        due, got, said = pool.map(answers, ([own, "calls"], [calls], [own, "clauses"]), (every, every, asked))
+    compare_answers(tally, cases, due, got)
+    compare_plan(tally, rng, plan, own, files)
+    check_kinds(tally, due)
+    check_clauses(tally, lists, said)
+    tally.show()
+    tally.write(counts)
 
 
 main()

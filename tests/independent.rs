@@ -1,5 +1,6 @@
 // The planner of document 01 once more, written from its text alone, to compare with.
-// `independent plan` behaves as the program `plan`, `independent calls` as the check program.
+// `independent plan` behaves as the program `plan`, `independent calls` as the check program. `independent clauses`
+// takes the same calls and answers an R, P or B with its letter and the clauses of soundness that its record breaks.
 use std::io::{BufRead, Read, Write};
 
 const EMPTY: (u64, u64) = (65535, 0);
@@ -148,42 +149,89 @@ fn least_starts(n: usize, inequalities: &[Inequality]) -> Option<Vec<i64>> {
     Some(starts)
 }
 
+/// What the clauses of soundness look at: as much of a record as its limits let be read.
+struct Parts<'a> {
+    record: &'a Record,
+    ticks: &'a [usize],       // of the jobs; nothing if n is above 24
+    delays: &'a [Inequality], // nothing if m is above 128
+    turns: Vec<(u64, u64)>,   // the places of the path that are not empty, wherever they stand
+    readable: bool,           // the jobs are: n is at most 24 and every p at most 16
+    clashes: Vec<Inequality>, // nothing if they are not
+}
+
+fn parts(r: &Record) -> Parts<'_> {
+    let ticks = r.ticks.get(..r.n).unwrap_or(&[]);
+    let readable = r.n <= 24 && ticks.iter().all(|p| *p <= 16);
+    Parts {
+        record: r,
+        ticks,
+        delays: r.delays.get(..r.m).unwrap_or(&[]),
+        turns: r.path.iter().copied().filter(|place| *place != EMPTY).collect(),
+        readable,
+        clashes: if readable { clashes(r) } else { Vec::new() },
+    }
+}
+
+/// A clause of soundness: its name, and whether a record breaks it. Where it cannot be asked it is not broken.
+type Clause = (&'static str, fn(&Parts) -> bool);
+
+/// All of them, in the order of 01's sentence. A record is sound if it breaks none.
+const CLAUSES: &[Clause] = &[
+    ("n below 1", |it| it.record.n < 1),
+    ("n above 24", |it| it.record.n > 24),
+    ("m above 128", |it| it.record.m > 128),
+    ("p below 1", |it| it.ticks.iter().any(|p| *p < 1)),
+    ("p above 16", |it| it.ticks.iter().any(|p| *p > 16)),
+    ("from of n or above", |it| it.delays.iter().any(|delay| delay.0 >= it.record.n)),
+    ("to of n or above", |it| it.delays.iter().any(|delay| delay.1 >= it.record.n)),
+    ("from = to", |it| it.delays.iter().any(|delay| delay.0 == delay.1)),
+    ("w below -1,000", |it| it.delays.iter().any(|delay| delay.2 < -1000)),
+    ("w above 1,000", |it| it.delays.iter().any(|delay| delay.2 > 1000)),
+    ("D above 1,024", |it| it.clashes.len() > 1024),
+    ("delays that cannot be met", no_starts),
+    ("a clash that is not listed", unlisted),
+    ("a side above 1", |it| it.turns.iter().any(|turn| turn.1 > 1)),
+    ("one clash twice", twice),
+    ("a turn after an empty place", |it| turns(it.record) < it.turns.len()),
+    ("a turn while ended", |it| it.record.ended && !it.turns.is_empty()),
+    ("total above 100,000,000", |it| it.record.total > 100_000_000),
+    ("a start above 23,000", late_start),
+    ("latency above 23,016", |it| it.record.best.is_some_and(|latency| latency > 23_016)),
+];
+
+/// Asked where every delay names jobs of the batch.
+fn no_starts(it: &Parts) -> bool {
+    let n = it.record.n;
+    n <= 24 && it.delays.iter().all(|&(i, j, _)| i < n && j < n) && least_starts(n, it.delays).is_none()
+}
+
+/// Asked where the clashes are known.
+fn unlisted(it: &Parts) -> bool {
+    it.readable && it.turns.iter().any(|turn| turn.0 >= it.clashes.len() as u64)
+}
+
+/// Some turn is on the clash of an earlier one.
+fn twice(it: &Parts) -> bool {
+    let again = |k: usize| it.turns[..k].iter().any(|earlier| earlier.0 == it.turns[k].0);
+    (0..it.turns.len()).any(again)
+}
+
+/// Asked where there is a best; starts past n do not count.
+fn late_start(it: &Parts) -> bool {
+    it.record.best.is_some() && it.record.starts.iter().take(it.record.n).any(|start| *start > 23_000)
+}
+
 /// The clashes of the record's batch if the record is sound.
 fn sound(r: &Record) -> Option<Vec<Inequality>> {
-    if r.n < 1 || r.n > 24 || r.m > 128 {
-        return None;
-    }
-    if r.ticks[..r.n].iter().any(|p| *p < 1 || *p > 16) {
-        return None;
-    }
-    for &(i, j, w) in &r.delays[..r.m] {
-        if i >= r.n || j >= r.n || i == j || w < -1000 || w > 1000 {
-            return None;
-        }
-    }
-    let list = clashes(r);
-    if list.len() > 1024 || least_starts(r.n, &r.delays[..r.m]).is_none() {
-        return None;
-    }
-    let turns = turns(r);
-    if r.path[turns..].iter().any(|place| *place != EMPTY) || (r.ended && turns > 0) {
-        return None;
-    }
-    for (k, &(clash, side)) in r.path[..turns].iter().enumerate() {
-        let again = r.path[..k].iter().any(|earlier| earlier.0 == clash);
-        if clash >= list.len() as u64 || side > 1 || again {
-            return None;
-        }
-    }
-    if r.total > 100_000_000 {
-        return None;
-    }
-    if let Some(latency) = r.best {
-        if latency > 23_016 || r.starts[..r.n].iter().any(|start| *start > 23_000) {
-            return None;
-        }
-    }
-    Some(list)
+    let it = parts(r);
+    if CLAUSES.iter().any(|(_, broken)| broken(&it)) { None } else { Some(it.clashes) }
+}
+
+/// The names of the clauses that a record breaks; `sound` for none.
+fn broken(r: &Record) -> String {
+    let it = parts(r);
+    let names: Vec<&str> = CLAUSES.iter().filter(|(_, broken)| broken(&it)).map(|(name, _)| *name).collect();
+    if names.is_empty() { "sound".to_string() } else { names.join("; ") }
 }
 
 /// The number of places before the first empty one.
@@ -424,6 +472,15 @@ fn call(r: &mut Record, line: &str) -> Option<String> {
     }
 }
 
+/// A call that asks soundness is answered with what its record breaks, every other as above.
+fn call_of_clauses(r: &mut Record, line: &str) -> Option<String> {
+    if !line.starts_with(['R', 'P', 'B']) {
+        return call(r, line);
+    }
+    let names = broken(r);
+    call(r, line).map(|_| format!("{} {}", &line[..1], names))
+}
+
 fn main() {
     let mode = std::env::args().nth(1).unwrap_or_default();
     let mut out = std::io::BufWriter::new(std::io::stdout());
@@ -431,14 +488,15 @@ fn main() {
         let mut file = Vec::new();
         std::io::stdin().read_to_end(&mut file).unwrap();
         out.write_all(plan(&file).as_bytes()).unwrap();
-    } else if mode == "calls" {
+    } else if mode == "calls" || mode == "clauses" {
         let mut record = blank();
+        let answered = if mode == "calls" { call } else { call_of_clauses };
         for line in std::io::stdin().lock().lines() {
-            let answer = call(&mut record, &line.unwrap()).unwrap_or("?".to_string());
+            let answer = answered(&mut record, &line.unwrap()).unwrap_or("?".to_string());
             writeln!(out, "{}", answer).unwrap();
         }
     } else {
-        eprintln!("usage: independent plan | calls");
+        eprintln!("usage: independent plan | calls | clauses");
         std::process::exit(2);
     }
 }

@@ -1,14 +1,13 @@
 """The lists of calls that are compared. Each begins with an opening."""
-from batches import joined, lines
+from batches import clash_count, joined, lines, opening
 from files import test_batch
 
 NONE = 65536  # best's value for none
 EMPTY = 65535
 TEXTS = ["P 240", "B 3080", "D"]  # long enough for every plan and batch
-
-
-def opening(data):
-    return ("O " + data.hex().upper()).strip()
+# Ticks of jobs, station by station: 995 to 1,023 clashes, so that two more jobs can make them 1,024.
+CLASH_GROUPS = [[[16] * 8 + [1]], [[3] * 15 + [2] * 7], [[8] * 10 + [9] * 2], [[16] * 6, [16] * 3 + [12] * 3 + [10]],
+                [[16] * 5, [16] * 5, [16] * 5, [16, 14, 10]]]
 
 
 def turn(place, clash, side):
@@ -54,8 +53,11 @@ def edits(n, m, clashes):
     def one(field, a, value, b=0):
         return "S %d %d %d %d" % (field, a, b, value)
 
+    empty = [call for place in range(12) for call in turn(place, EMPTY, 0)]
+    fresh = [one(12, 0, 0)] + empty
     for value in (0, n - 1, n + 1, 24, 25, 255):
         yield [one(0, 0, value)]
+        yield empty + [one(0, 0, value), one(1, 0, 0)]  # without delays and turns, which need jobs
     for value in (0, m - 1, m + 1, 128, 129, 255):
         yield [one(1, 0, value)]
     for job in (0, n - 1, n, 23):
@@ -71,9 +73,10 @@ def edits(n, m, clashes):
         yield [one(4, delay, 1), one(5, delay, 1)]
         for value in (1000, 1001, -1000, -1001, 32767, -32768):
             yield [one(6, delay, 32768 + value)]
+    for value in (1000, 1001, 32767):  # one delay alone, which can always be met
+        yield [one(1, 0, 1), one(6, 0, 32768 + value)]
     for value in (0, 1):  # a ring of sum 0, and of sum 1
         yield [one(4, 0, 0), one(5, 0, 1), one(6, 0, 32768 + value), one(4, 1, 1), one(5, 1, 0), one(6, 1, 32768)]
-    fresh = [one(12, 0, 0)] + [call for place in range(12) for call in turn(place, EMPTY, 0)]
     for side in (0, 1, 2, 256, 257, 65535):
         for clash in (0, clashes - 1, clashes, 1023, 1024, EMPTY - 1, EMPTY):
             yield fresh + turn(0, clash, side)
@@ -116,13 +119,57 @@ def foreign(rng, batch):
         yield "foreign records", calls + ["D", "R 1 24", "R 0 24", "R 2 24", "D", "R 30 25", "D", "R 2000 24", "D", "P 240"]
 
 
-def large():
-    """A path with no empty place, and a batch that gets one clash too many."""
+def full_path():
+    """A path with no empty place."""
     first = [opening(joined(lines(test_batch(13), [])))]
     for zero in (0, 1000):
         path = [call for place in range(1024) for call in turn(place, 1023 - place, 0 if place == zero else 1)]
         yield "full path", first + path + ["D", "R 1 24", "D", "R 20 11", "D", "S 8 0 0 2", "R 1 24"]
-    yield "clash limit", first + ["R 50 24", "D", "S 2 10 0 14", "R 1 24", "S 3 10 13 2", "R 1 24"] + TEXTS
+
+
+def most_clashes(rng, groups):
+    """Jobs with 1,024 clashes, in some order, and two of them that clash with each other alone. A group has the ticks
+    of jobs that hold one station all the time: two of them, of p and q ticks, clash p + q - 1 times."""
+    jobs = [[1 << station] * p for station, group in enumerate(groups) for p in group]
+    ticks = 1024 - clash_count(jobs) + 1
+    jobs += [[1 << 5] * (ticks // 2), [1 << 5] * (ticks - ticks // 2)]
+    order = rng.sample(range(len(jobs)), len(jobs))
+    return [jobs[k] for k in order], order.index(len(jobs) - 2), order.index(len(jobs) - 1)
+
+
+def clash_states(jobs):
+    """Calls that lead to searches of these jobs: fresh, unfinished, from anywhere with turns and a best, and ended. The
+    last one has delays that leave one order, so that it takes one node."""
+    first = [opening(joined(lines(jobs, [])))]
+    turns = turn(0, 1023, 1) + turn(1, 0, 0) + turn(2, 512, 1)
+    order = [(k, k + 1, 16) for k in range(len(jobs) - 1)]
+    yield first
+    yield first + ["R 50 24"]
+    yield first + turns + ["S 9 0 0 23016", "S 10 0 0 23000", "S 11 0 0 99999000"]
+    yield [opening(joined(lines(jobs, order))), "R 1 24"]
+
+
+def clash_edits(jobs, one, other):
+    """Changes of a batch with 1,024 clashes, to more of them or just not. Stations 6 and up are free."""
+    def mask(job, tick, value):
+        return "S 3 %d %d %d" % (job, tick, value)
+
+    ticks, station = len(jobs[one]), jobs[one][0]
+    longer = "S 2 %d 0 %d" % (one, ticks + 1)
+    yield [longer]  # by a tick that holds nothing
+    yield [longer, mask(one, ticks, station)]  # one more
+    yield [mask(one, 0, station | 1 << 15)]  # a station that no other job holds
+    yield [mask(0, 0, jobs[0][0] | 1 << 9), mask(1, 0, jobs[1][0] | 1 << 9)]  # one more at distance 0, or none
+    yield [mask(other, 0, 65535)]  # many more
+    yield [mask(job, 0, 65535) for job in range(len(jobs))]
+
+
+def clash_limit(rng):
+    """Batches at 1,024 clashes that get more of them, or just do not."""
+    for jobs, one, other in [most_clashes(rng, groups) for groups in CLASH_GROUPS] + [(test_batch(13), 10, 9)]:
+        for state in clash_states(jobs):
+            for edit in clash_edits(jobs, one, other):
+                yield "clash limit", state + edit + ["D", "R 3 24", "D"] + TEXTS
 
 
 def all_lists(rng, known):
@@ -135,4 +182,4 @@ def all_lists(rng, known):
         made += soundness(batch)
     for batch in known:
         made += foreign(rng, batch)
-    return made + list(large())
+    return made + list(full_path()) + list(clash_limit(rng))
