@@ -96,6 +96,7 @@ def compare_plan(tally, rng, plan, own, files):
     chosen = [("past the cut", data) for data in past_the_cut()]
     with open("../bench/batches/twelve.batch", "rb") as file:
         chosen.append(("two runs", file.read()))
+    chosen.append(("eight jobs alike", joined(lines([[1, 1]] * 8, []))))
     for kind in dict(files):
         chosen += [one for one in soon if one[0] == kind][:100 if kind == "valid" else 20]
     for kind, data in chosen:

@@ -1,10 +1,10 @@
 -- The statements of specs/Demands are pinned, as model/proofs/PinLaws pins what they are made of: two results that meet one of them for the same inputs are
 -- equal as far as it speaks of them, and each holds up to the limit that it names.
 use Prim.Native.Nat.{ℕ}
-use mathlib.Core.Path.{_≡_, ap, sym, _∙_}
+use mathlib.Core.Path.{_≡_, refl, ap, sym, _∙_}
 use mathlib.Core.Logic.{_↔_}
 use mathlib.Core.Bool.{false}
-use mathlib.Core.List.{List, _++_, append-nil}
+use mathlib.Core.List.{List, [], _∷_, _++_, append-nil}
 use native.Mathlib.Omega.{arith}
 use lib.ListN.{length, drop-of-length-le}
 use Rattle.model.specs.declared.Batch.{Batch}
@@ -16,12 +16,18 @@ use Rattle.model.specs.Common.{accept}
 use Rattle.model.specs.Format.{BatchFile}
 use Rattle.model.specs.Text.{batchText, written}
 use Rattle.model.specs.Answers.{openTold, writeTold}
-use Rattle.model.specs.Calls.{Call, refuses, granted}
+use Rattle.model.specs.Calls.{Call, call, after, refuses, granted}
 use Rattle.model.proofs.PinLaws.{run-one, reached-pinned, answer-pinned}
-use Rattle.planner.specs.Demands.{Called, Demand2, LastCall, AfterList, Demand3}
+use Rattle.planner.specs.Demands.{Called, none, more, Demand2, LastCall, AfterList, Demand3}
 use Rattle.planner.proofs.Demands.{called-after}
 
--- one record after a list of calls
+-- every list of calls has a record after it
+pub called-there : (s : Search) (cs : List Call) → Called s cs (after s cs)
+unfolding after call
+called-there s [] = none
+called-there s (c ∷ cs) = more (call s c .0) (call s c .1) refl (called-there (call s c .0 .search) cs)
+
+-- and one only
 pub called-pinned : {s t u : Search} {cs : List Call} → Called s cs t → Called s cs u → t ≡ u
 called-pinned h k = called-after h ∙ sym (called-after k)
 
