@@ -1,8 +1,10 @@
-/* A kiosk's redraw loop around the planner: each frame of 16 ms gives it at most about 4 ms, in a budget of nodes chosen from the measured rate.
+/* A kiosk's redraw loop around the planner: each redraw, every 16 ms, gives it at most about 4 ms, in a budget of
+ * nodes chosen from the measured rate.
  *
- * `kiosk FILE` draws its progress on one line of standard error and prints the plan text on standard output. It waits for the next frame only
- * where standard error is a terminal. Exit status: 0 with a text, 1 if the file or a run is refused or the text cannot
- * be written, 2 with wrong usage or a file that cannot be read.
+ * `kiosk FILE` draws its progress on one line of standard error and prints the plan text on standard output. It
+ * waits for the next redraw only where standard error is a terminal. A search that would pass its limit of nodes
+ * leaves the best plan found, which is told on standard error. Exit status: 0 with a text, 1 if the file or a run
+ * is refused or the text cannot be written, 2 with wrong usage or a file that cannot be read.
  *
  * cc -std=c99 -O2 -I include -o target/kiosk examples/kiosk.c target/staticlib/libplanner_c.a
  */
@@ -52,7 +54,9 @@ static void rest(double seconds) {
     nanosleep(&time, NULL);
 }
 
-/* The next frame's budget: as many nodes as the last rate fits into the share. It at most doubles, since later nodes may be slower. */
+/* The next frame's budget: as many nodes as the last rate fits into the share. It at most doubles, since later
+ * nodes may be slower.
+ */
 static uint32_t next_budget(const planner_record *record, uint32_t visited, double took) {
     double fitting = took > 0 ? visited * SHARE / took : PLANNER_BUDGET;
     if (fitting > 2.0 * visited)
@@ -99,6 +103,17 @@ static int refused(int number) {
     return 1;
 }
 
+/* The best plan of a search that was not brought to its end: valid, and perhaps not the shortest. */
+static void tell_best(const planner_record *record) {
+    int i;
+    if (!record->found)
+        return;
+    fprintf(stderr, "kiosk: best plan so far, latency %d: starts", record->latency);
+    for (i = 0; i < record->batch.n; i++)
+        fprintf(stderr, " %d", record->starts[i]);
+    fprintf(stderr, "\n");
+}
+
 int main(int count, char **arguments) {
     static uint8_t file[ROOM];
     static planner_record record;
@@ -127,8 +142,10 @@ int main(int count, char **arguments) {
     if (opened != 0)
         return refused(opened);
     answer = redraw(&record);
-    if (answer.kind == PLANNER_REFUSED)
+    if (answer.kind == PLANNER_REFUSED) {
+        tell_best(&record);
         return refused(answer.refusal);
+    }
     written = planner_write_plan(&record, text, sizeof text);
     if (written.refusal != 0)
         return refused(written.refusal);

@@ -1,18 +1,23 @@
 /* The kiosk batch planner's library: libplanner_c.a, made by `rt staticlib planner_c`. Linux, x86-64; C99 or C++.
  *
- * A batch file is opened once; its search is then run in budgets of nodes, as small as the caller likes, until the answer is a plan or
- * no plan; then the plan is written as text. The search lives in a planner_record that the caller owns and keeps between the calls.
+ * A batch file is opened once; its search is then run in budgets of nodes, as small as the caller likes, until the
+ * answer is a plan or no plan; then the plan is written as text. The search lives in a planner_record that the
+ * caller owns and keeps between the calls. A caller that stops before the end, or meets PLANNER_REFUSAL_TOTAL, has
+ * the best plan found so far in the record: found, latency and starts. It is valid and perhaps not the shortest,
+ * and its text cannot be written.
  *
  * For every call:
- * - No pointer may be null, also where the length that goes with it is 0. Each is aligned for its type and valid for the length given,
- *   and no memory that a call may write overlaps other memory passed to it.
- * - The call keeps no pointer, allocates nothing, and has no state of its own: what it does depends on its arguments alone. Calls
- *   may be made from several threads at once as long as they share no memory that one of them writes.
+ * - No pointer may be null, also where the length that goes with it is 0. Each is aligned for its type and valid
+ *   for the length given, and no memory that a call may write overlaps other memory passed to it.
+ * - The call keeps no pointer, allocates nothing, and has no state of its own: what it does depends on its
+ *   arguments alone. Calls may be made from several threads at once as long as they share no memory that one of
+ *   them writes.
  * - Every call ends, a run after at most its budget of nodes. It takes less than 64 KB of stack.
  * - Any bytes may stand in a record: one that makes no sense is refused with 12.
  * - A refused call leaves all memory as it was.
- * - A record has no padding but one byte after each job's ticks. It is never looked at, and an opening or a run that is not refused may leave
- *   anything there, stale bytes of the stack too: compare jobs field by field, and clear that byte where a record leaves the process.
+ * - A record has no padding but one byte after each job's ticks. It is never looked at, and an opening or a run
+ *   that is not refused may leave anything there, stale bytes of the stack too: compare jobs field by field, and
+ *   clear that byte where a record leaves the process.
  */
 #ifndef PLANNER_H
 #define PLANNER_H
@@ -26,10 +31,11 @@ extern "C" {
 
 /* ---- the version */
 
-/* It rises whenever the record's layout, a number's meaning or a call changes. A program compiled with this header links only with an archive of
- * the same version: with gcc and clang every file that includes the header refers to planner_version_1, a name that no archive of another version
- * has. With another compiler, or with --gc-sections and a gcc before 11 or a clang before 13, call planner_version_1() somewhere in the program;
- * it answers PLANNER_VERSION.
+/* It rises whenever the record's layout, a number's meaning or a call changes. A program compiled with this header
+ * links only with an archive of the same version: with gcc and clang every file that includes the header refers to
+ * planner_version_1, a name that no archive of another version has. With another compiler, or with --gc-sections
+ * and a gcc before 11 or a clang before 13, call planner_version_1() somewhere in the program; it answers
+ * PLANNER_VERSION.
  */
 #define PLANNER_VERSION 1
 uint32_t planner_version_1(void);
@@ -83,7 +89,9 @@ typedef struct planner_batch {
     planner_delay delays[PLANNER_DELAYS];
 } planner_batch;
 
-/* A turn of the search: the number of a clash in the batch's list, and the side taken, 0 or 1. */
+/* A turn of the search: the number of a clash in the batch's list, and the side taken, 0 for a larger distance or 1
+ * for a smaller one. The list has the clashes by i, then j, then distance, all rising, numbered from 0.
+ */
 typedef struct planner_turn {
     uint16_t clash;
     uint16_t side;
@@ -93,9 +101,10 @@ typedef struct planner_turn {
 #define PLANNER_EMPTY_CLASH 65535
 #define PLANNER_EMPTY_SIDE 0
 
-/* A search. Plain data: it may be copied, kept, and read at any time between calls.
- * The planner writes found and ended as 0 or 1, and latency as 0 while found is 0. Any other found or ended counts as 1, and with found 0 any
- * other latency counts as 0: a run that is answered, also one that visits no node, brings these fields to the planner's own values.
+/* A search. Plain data: it may be copied, kept, and read at any time between calls. The planner writes found and
+ * ended as 0 or 1, and latency as 0 while found is 0. Any other found or ended counts as 1, and with found 0 any
+ * other latency counts as 0: a run that is answered, also one that visits no node, brings these fields to the
+ * planner's own values.
  */
 typedef struct planner_record {
     uint32_t total;                     /* nodes visited so far */
@@ -109,10 +118,12 @@ typedef struct planner_record {
 
 /* ---- the answers */
 
-/* That a plan is the shortest valid one, and that no valid plan exists, holds for a record that planner_open made and that nothing but
- * planner_run has changed since. A sound record from elsewhere is answered as it stands: its best is taken for a plan and its path for the part
- * of the search that is done.
- * These four are values of `kind`: with PLANNER_REFUSED, one of the PLANNER_REFUSAL_ numbers below stands in `refusal`.
+/* That a plan is the shortest valid one, and that no valid plan exists, holds for a record that planner_open made
+ * and that nothing but planner_run has changed since. A sound record from elsewhere is answered as it stands: its
+ * best is taken for a plan and its path for the part of the search that is done.
+ *
+ * These four are values of `kind`: with PLANNER_REFUSED, one of the PLANNER_REFUSAL_ numbers below stands in
+ * `refusal`.
  */
 #define PLANNER_SPENT 0      /* the budget is used and the search goes on: run again */
 #define PLANNER_PLAN 1       /* the search has ended with the shortest valid plan */
@@ -133,7 +144,9 @@ typedef struct planner_text {
 
 /* ---- the refusals: where several conditions hold, a call gives the first in the order that it asks them */
 
-/* These are values of `refusal`, the first ten also what planner_open answers; PLANNER_REFUSED, above, is a value of `kind`. */
+/* These are values of `refusal`, the first ten also what planner_open answers; PLANNER_REFUSED, above, is a value
+ * of `kind`.
+ */
 #define PLANNER_REFUSAL_LINE 1       /* a line without 0A, without digits, with an odd count, or with another byte than 0-9 and A-F */
 #define PLANNER_REFUSAL_FRAME 2      /* the first byte is not the kind due, or the length is wrong */
 #define PLANNER_REFUSAL_EDITION 3    /* the edition is not 01 */
@@ -156,26 +169,30 @@ typedef struct planner_text {
 /* Opens a batch file of `length` bytes.
  * Answers 0: the record is the fresh search of the file's batch, with 0 in the places that the batch does not use.
  * Answers 1 to 10: refused. The record is left as it was.
- * Asked line by line, in a line PLANNER_REFUSAL_MISSING first and then _LINE, _FRAME, _EDITION, _COUNT, _JOB, _WEIGHT;
- * after the last line _EXTRA, _CLASHES, _DELAYS.
+ * Asked line by line, in a line PLANNER_REFUSAL_MISSING first and then _LINE, _FRAME, _EDITION, _COUNT, _JOB,
+ * _WEIGHT; after the last line _EXTRA, _CLASHES, _DELAYS.
  */
 uint8_t planner_open(const uint8_t *file, size_t length, planner_record *record);
 
-/* Visits nodes until the search has ended or `budget` of them are visited; on a search that has ended it visits none and answers again.
- * Reads and writes the record, but for its batch, which stays as it is. `starts` has `count` places, at least batch.n of them
- * (PLANNER_JOBS always do): with PLANNER_PLAN the first batch.n become the plan's starts and the rest is left, else all are left.
- * Refused, asked in this order: PLANNER_REFUSAL_BUDGET, _RECORD, _STARTS, _TOTAL. The record and the starts are then left as they were.
+/* Visits nodes until the search has ended or `budget` of them are visited; on a search that has ended it visits
+ * none and answers again. Reads and writes the record, but for its batch, which stays as it is.
+ * `starts` has `count` places, at least batch.n of them (PLANNER_JOBS always do): with PLANNER_PLAN the first
+ * batch.n become the plan's starts and the rest is left, else all are left.
+ * Refused, asked in this order: PLANNER_REFUSAL_BUDGET, _RECORD, _STARTS, _TOTAL. The record and the starts are
+ * then left as they were. After _TOTAL a smaller budget may still be answered, up to PLANNER_TOTAL nodes in all.
  */
 planner_answer planner_run(planner_record *record, uint32_t budget, uint16_t *starts, size_t count);
 
-/* Writes the plan text of a search that has ended, or its one line for no plan, into the first bytes of `buffer` and answers their number.
- * No zero byte is added; the rest of the `capacity` bytes and the record are left. PLANNER_PLAN_TEXT bytes always do.
+/* Writes the plan text of a search that has ended, or its one line for no plan, into the first bytes of `buffer`
+ * and answers their number. No zero byte is added; the rest of the `capacity` bytes and the record are left.
+ * PLANNER_PLAN_TEXT bytes always do.
  * Refused, asked in this order: PLANNER_REFUSAL_RECORD, _UNENDED, _BUFFER. The buffer is then left as it was.
  */
 planner_text planner_write_plan(const planner_record *record, uint8_t *buffer, size_t capacity);
 
-/* Writes the batch file of the record, byte for byte the file that was opened, into the first bytes of `buffer` and answers their number.
- * No zero byte is added; the rest of the `capacity` bytes and the record are left. PLANNER_BATCH_TEXT bytes always do.
+/* Writes the batch file of the record, byte for byte the file that was opened, into the first bytes of `buffer` and
+ * answers their number. No zero byte is added; the rest of the `capacity` bytes and the record are left.
+ * PLANNER_BATCH_TEXT bytes always do.
  * Refused, asked in this order: PLANNER_REFUSAL_RECORD, _BUFFER. The buffer is then left as it was.
  */
 planner_text planner_write_batch(const planner_record *record, uint8_t *buffer, size_t capacity);
@@ -194,7 +211,8 @@ planner_text planner_write_batch(const planner_record *record, uint8_t *buffer, 
 #define PLANNER_LAYOUT(name, condition) typedef char planner_layout_of_##name[(condition) ? 1 : -1]
 #endif
 
-PLANNER_LAYOUT(delay, sizeof(planner_delay) == 4 && offsetof(planner_delay, to) == 1 && offsetof(planner_delay, weight) == 2);
+PLANNER_LAYOUT(delay, sizeof(planner_delay) == 4 && offsetof(planner_delay, to) == 1);
+PLANNER_LAYOUT(delay_weight, offsetof(planner_delay, weight) == 2);
 PLANNER_LAYOUT(job, sizeof(planner_job) == 34 && offsetof(planner_job, masks) == 2);
 PLANNER_LAYOUT(batch, sizeof(planner_batch) == 1330 && offsetof(planner_batch, m) == 1);
 PLANNER_LAYOUT(batch_lists, offsetof(planner_batch, jobs) == 2 && offsetof(planner_batch, delays) == 818);

@@ -1,8 +1,10 @@
-//! A kiosk's redraw loop around the planner: each frame of 16 ms gives it at most about 4 ms, in a budget of nodes chosen from the measured rate.
+//! A kiosk's redraw loop around the planner: each redraw, every 16 ms, gives it at most about 4 ms, in a budget of nodes
+//! chosen from the measured rate.
 //!
-//! `redraw FILE` draws its progress on one line of standard error and prints the plan text on standard output. It waits for the next frame only
-//! where standard error is a terminal. Exit status: 0 with a text, 1 if the file or a run is refused or the text cannot
-//! be written, 2 with wrong usage or a file that cannot be read.
+//! `redraw FILE` draws its progress on one line of standard error and prints the plan text on standard output. It waits
+//! for the next redraw only where standard error is a terminal. A search that would pass its limit of nodes leaves the
+//! best plan found, which is told on standard error. Exit status: 0 with a text, 1 if the file or a run is refused or the
+//! text cannot be written, 2 with wrong usage or a file that cannot be read.
 use planner::{Answer, Refusal, Search, BUDGET, TOTAL};
 use std::io::{stderr, stdout, IsTerminal, Write};
 use std::process::ExitCode;
@@ -14,7 +16,8 @@ const SHARE: Duration = Duration::from_millis(4);
 /// The first budget, before anything is measured.
 const FIRST: u32 = 64;
 
-/// The next frame's budget: as many nodes as the last rate fits into the share. It at most doubles, since later nodes may be slower.
+/// The next frame's budget: as many nodes as the last rate fits into the share. It at most doubles, since later nodes
+/// may be slower.
 fn next_budget(search: &Search, visited: u32, took: Duration) -> u32 {
     let fitting = f64::from(visited) * SHARE.as_secs_f64() / took.as_secs_f64().max(1e-9);
     let bound = BUDGET.min(TOTAL - search.total()).min(visited.saturating_mul(2));
@@ -51,9 +54,16 @@ fn redraw(search: &mut Search) -> Result<(), Refusal> {
     }
 }
 
+/// The best plan of a search that was not brought to its end: valid, and perhaps not the shortest.
+fn tell_best(search: &Search) {
+    if let Some(plan) = search.best() {
+        eprintln!("redraw: best plan so far, latency {}: starts {:?}", plan.latency(), plan.starts());
+    }
+}
+
 fn plan(file: &[u8]) -> Result<Vec<u8>, Refusal> {
     let mut search = Search::open(file)?;
-    redraw(&mut search)?;
+    redraw(&mut search).inspect_err(|_| tell_best(&search))?;
     search.plan_text()
 }
 

@@ -92,7 +92,8 @@ fn examples() {
 fn worked_example() {
     let readme = std::fs::read_to_string(repository("README.md")).unwrap();
     let lines = readme.lines().filter(|line| line.starts_with("    B0") || line.starts_with("    B1"));
-    let due: String = lines.map(|line| line.split_whitespace().next().unwrap().to_string() + "\n").collect();
+    let remarked = lines.filter_map(|line| line.trim().split_once(' '));
+    let due: String = remarked.map(|(text, _)| text.to_string() + "\n").collect();
     let fresh = Search::open(&std::fs::read(repository("examples/wedding.batch")).unwrap()).unwrap();
     let (search, _) = driven(&fresh, || 2);
     assert_eq!(String::from_utf8(search.plan_text().unwrap()).unwrap(), due);
