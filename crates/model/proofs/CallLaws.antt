@@ -2,7 +2,7 @@
 -- N nodes, and the last answer follows from it. An invariant that each call keeps.
 use Prim.Native.Nat.{ℕ, _+_, _≤_, _<_, min}
 use mathlib.Core.Path.{_≡_, refl, ap, sym, _∙_, subst}
-use mathlib.Core.Logic.{_⊎_, inl, inr, _↔_}
+use mathlib.Core.Logic.{_↔_}
 use mathlib.Core.Bool.{Bool, true, false, not, _&&_, _||_}
 use mathlib.Core.List.{List, [], _∷_, _++_}
 use native.Mathlib.Omega.{arith}
@@ -20,7 +20,7 @@ use Rattle.model.specs.Common.{if_then_else_, Outcome, refuse, accept, _
 use Rattle.model.specs.Limits.{mostBudget, mostTotal}
 use Rattle.model.specs.Plan.{Valid, Shortest, latency}
 use Rattle.model.specs.Clash.{clashes}
-use Rattle.model.specs.Search.{placeOf, freshSearch, nodesOn, nodes}
+use Rattle.model.specs.Search.{placeOf, searchOf, freshSearch, nodesOn, nodes}
 use Rattle.model.specs.Sound.{sound}
 use Rattle.model.specs.Run.{runRefusal, answerOf, startsAfter, answered, ranAs, ran}
 use Rattle.model.specs.Answers.{Verdict, spent, plan, noPlan, runTold, totalTold}
@@ -30,7 +30,8 @@ use Rattle.model.proofs.BoolLaws.{apart}
 use Rattle.model.proofs.NodeLaws.{BestLe}
 use Rattle.model.proofs.GoodLaws.{ValidBest}
 use Rattle.model.proofs.SoundLaws.{Passes, fits, sound-nodes}
-use Rattle.model.proofs.EndLaws.{End, best-valid, nodes-fresh, nodes-more, nodes-total, nodes-past, ends-not-before, fresh-total}
+use Rattle.model.proofs.LeaveLaws.{nodes-batch, run-sound}
+use Rattle.model.proofs.EndLaws.{End, nodes-fresh, nodes-more, nodes-total, nodes-past, ends-not-before, fresh-total}
 
 -- ---- the table's tests, read either way
 
@@ -49,7 +50,7 @@ checked p q r t = do
   _ ← require 13 (not q)
   require 14 (not r || not t)
 
--- what a call's refusal is, where `refused` is what the table says
+-- what a call's refusal is, by what the table says
 abbrev pub Checked : Bool → Outcome (Unit {0}) → Type 0
 Checked true o = (k : ℕ) × (o ≡ refuse k)
 Checked false o = o ≡ accept tt
@@ -68,14 +69,15 @@ module _ (b : Batch) (passes : Passes b) (n : ℕ) (end : End b (fits b passes) 
   at k = nodes k (freshSearch b)
 
   pub at-batch : (k : ℕ) → at k .batch ≡ b
-  at-batch k = ap (λ (s : Search). s .batch) (nodes-fresh b k) ∙ best-valid b (fits b passes) k .batch
+  unfolding freshSearch searchOf
+  at-batch k = ap (λ (s : Search). s .batch) (nodes-fresh b k) ∙ nodes-batch (clashes b) k (freshSearch b)
 
   at-min : (k : ℕ) → at k ≡ at (min k n)
   at-min k = go (decLt k n)
     where
       go : Dec (k < n) → at k ≡ at (min k n)
       go (yes h) = let z : k ≡ min k n = omega arith in ap at z
-      go (no h) = let z : n ≡ min k n = omega arith in nodes-past b n k (end .ends) (omega arith) ∙ ap at z
+      go (no h) = let z : n ≡ min k n = omega arith in nodes-past b n k (end .ends .ended) (omega arith) ∙ ap at z
 
   -- j nodes on from k
   at-more : (k j : ℕ) → nodes j (at k) ≡ at (k + j)
@@ -103,12 +105,16 @@ module _ (b : Batch) (passes : Passes b) (n : ℕ) (end : End b (fits b passes) 
           ∙ omega (arith, fresh-total b)
       go (no h) = let z : min s n ≡ n = omega arith in ap (λ (k : ℕ). at k .total) z ∙ end .ends .total ∙ sym z
 
-  pub reached-at : (s : ℕ) → Reached b n s (at (min s n))
-  reached-at s = record { is = refl; total = at-total s; unfinished = (λ e. below (ltb s n) refl (sym (at-ended s) ∙ e), λ h. at-ended s ∙ ap not (lt-ltb s n h)) }
+  -- S is below n where the test says so
+  lower : (s : ℕ) → false ≡ not (ltb s n) → s < n
+  lower s e = go (ltb s n) refl e
     where
-      below : (p : Bool) → ltb s n ≡ p → not p ≡ false → s < n
-      below true e h = ltb-true s n e
-      below false e h = apart (sym h)
+      go : (p : Bool) → ltb s n ≡ p → false ≡ not p → s < n
+      go true f g = ltb-true s n f
+      go false f g = apart g
+
+  pub reached-at : (s : ℕ) → Reached b n s (at (min s n))
+  reached-at s = record { is = refl; total = at-total s; unfinished = (λ e. lower s (sym e ∙ at-ended s), λ h. at-ended s ∙ ap not (lt-ltb s n h)) }
 
   -- what the invariant keeps beside the record: it is sound
   abbrev pub SoundThere : ℕ → Type 0
@@ -116,7 +122,7 @@ module _ (b : Batch) (passes : Passes b) (n : ℕ) (end : End b (fits b passes) 
 
   -- ---- the answer that a record gives
 
-  -- the total is at or above n where the test says so
+  -- S is at or above n where the test says so
   upper : (s : ℕ) → true ≡ not (ltb s n) → n ≤ s
   upper s e = go (ltb s n) refl e
     where
@@ -131,7 +137,7 @@ module _ (b : Batch) (passes : Passes b) (n : ℕ) (end : End b (fits b passes) 
       → AnswerFor b n s (runTold (answerOf e best total)) (startsAfter (answerOf e best total) m starts list)
   unfolding answerOf runTold startsAfter totalTold
   answer-by s false best total m starts list e t q h =
-      let below : s < n = lower (ltb s n) refl e in
+      let below : s < n = lower s e in
       record {
         verdict = spent total;
         answered = refl;
@@ -141,10 +147,6 @@ module _ (b : Batch) (passes : Passes b) (n : ℕ) (end : End b (fits b passes) 
         is-none = λ g f. absurd (omega arith);
         shortest = λ l k f. let z : _≡_ {A = ℕ} 0 1 = cc in absurd (omega arith);
       }
-    where
-      lower : (p : Bool) → ltb s n ≡ p → false ≡ not p → s < n
-      lower true f g = ltb-true s n f
-      lower false f g = apart g
   answer-by s true Nothing total m starts list e t q h =
       let above : n ≤ s = upper s e in
       let all : total ≡ n = omega arith in
@@ -209,10 +211,6 @@ module _ (b : Batch) (passes : Passes b) (n : ℕ) (end : End b (fits b passes) 
     unfolding refuses
     call-checked = rw refusal-is (checked-is (ltb mostBudget (c .budget)) (ltb (length (c .starts)) (b .n)) (ltb s n) (ltb mostTotal (min s n + c .budget)))
 
-    -- S after the call
-    abbrev pub then : ℕ
-    then = if refuses b n s c then s else s + c .budget
-
     -- a call that is not refused visits nodes up to the smaller of the new S and N
     moved : nodes (c .budget) (at (min s n)) ≡ at (min (s + c .budget) n)
     moved =
@@ -220,26 +218,15 @@ module _ (b : Batch) (passes : Passes b) (n : ℕ) (end : End b (fits b passes) 
         at-more (min s n) (c .budget) ∙ at-min (min s n + c .budget) ∙ ap at z
 
     -- what one call does: the record, its soundness, whether it is refused, and its answer
-    pub record Called (p : Bool) : Type 0 where
+    pub record OneCall (p : Bool) : Type 0 where
       pub search : call (at (min s n)) c .0 .search ≡ at (min (if p then s else s + c .budget) n)
       pub sound : SoundThere (if p then s else s + c .budget)
       pub refused : (p ≡ true) ↔ ((k : ℕ) × (runTold (call (at (min s n)) c .0 .answer) ≡ refuse k))
       pub answer : p ≡ false → AnswerFor b n (if p then s else s + c .budget) (runTold (call (at (min s n)) c .0 .answer)) (call (at (min s n)) c .1)
 
-    -- what the table leaves of 14: ended, or room for the budget
-    room : (p : Bool) → (ltb mostBudget (c .budget) || ltb (length (c .starts)) (b .n) || (ltb s n && p)) ≡ false → p ≡ ltb mostTotal (min s n + c .budget) → (at (min s n) .ended ≡ true) ⊎ (at (min s n) .total + c .budget ≤ mostTotal)
-    room p e f = go (ltb mostBudget (c .budget)) (ltb (length (c .starts)) (b .n)) (ltb s n) refl p e f
-      where
-        go : (x y r : Bool) → ltb s n ≡ r → (t : Bool) → (x || y || (r && t)) ≡ false → t ≡ ltb mostTotal (min s n + c .budget) → (at (min s n) .ended ≡ true) ⊎ (at (min s n) .total + c .budget ≤ mostTotal)
-        go true y r g t e f = apart (sym e)
-        go false true r g t e f = apart (sym e)
-        go false false true g true e f = apart (sym e)
-        go false false true g false e f = inr (omega (arith, ltb-false mostTotal (min s n + c .budget) (sym f), at-total s))
-        go false false false g t e f = inl (at-ended s ∙ ap not g)
-
-    called-by : (p : Bool) → refuses b n s c ≡ p → Checked p (runRefusal (at (min s n)) (c .budget) (length (c .starts))) → Called p
+    called-by : (p : Bool) → Checked p (runRefusal (at (min s n)) (c .budget) (length (c .starts))) → OneCall p
     unfolding if_then_else_ call ran ranAs runTold answered refuses
-    called-by true e (k, f) =
+    called-by true (k, f) =
         let whole : call (at (min s n)) c ≡ ranAs (refuse k) (at (min s n)) (c .budget) (c .starts) = ap (λ o. ranAs o (at (min s n)) (c .budget) (c .starts)) f in
         record {
           search = ap (λ (x : Ran × List ℕ). x .0 .search) whole;
@@ -247,13 +234,13 @@ module _ (b : Batch) (passes : Passes b) (n : ℕ) (end : End b (fits b passes) 
           refused = (λ h. (k, ap (λ (x : Ran × List ℕ). runTold (x .0 .answer)) whole), λ h. refl);
           answer = λ h. apart (sym h);
         }
-    called-by false e f =
+    called-by false f =
         let whole : call (at (min s n)) c ≡ answered (at (min (s + c .budget) n)) (c .starts) =
         ap (λ o. ranAs o (at (min s n)) (c .budget) (c .starts)) f ∙ ap (λ (r : Search). answered r (c .starts)) moved in
         let told = answer-at (s + c .budget) (c .starts) in
         record {
           search = ap (λ (x : Ran × List ℕ). x .0 .search) whole;
-          sound = ap sound (sym moved) ∙ sound-nodes (c .budget) (at (min s n)) there (room (ltb mostTotal (min s n + c .budget)) e refl);
+          sound = ap sound (sym moved) ∙ sound-nodes (c .budget) (at (min s n)) there (run-sound (at (min s n)) (c .budget) (length (c .starts)) f .1);
           refused = (λ h. apart h, λ h. never (h .0) (told .verdict) (sym (ap (λ (x : Ran × List ℕ). runTold (x .0 .answer)) whole ∙ told .answered) ∙ h .1));
           answer = λ h. subst (λ (x : Ran × List ℕ). AnswerFor b n (s + c .budget) (runTold (x .0 .answer)) (x .1)) (sym whole) told;
         }
@@ -261,8 +248,8 @@ module _ (b : Batch) (passes : Passes b) (n : ℕ) (end : End b (fits b passes) 
         never : (k : ℕ) (v : Verdict) → accept v ≡ refuse k → false ≡ true
         never k v e = let z : _≡_ {A = ℕ} 0 1 = cc in absurd (omega arith)
 
-    pub called : Called (refuses b n s c)
-    called = called-by (refuses b n s c) refl call-checked
+    pub called : OneCall (refuses b n s c)
+    called = called-by (refuses b n s c) call-checked
 
   -- ---- every list of calls
 
@@ -295,7 +282,7 @@ module _ (b : Batch) (passes : Passes b) (n : ℕ) (end : End b (fits b passes) 
     pub list-reached : (cs : List Call) → Reached b n (granted b n 0 cs) (after (freshSearch b) cs)
     list-reached cs = subst (Reached b n (granted b n 0 cs)) (sym (after-fresh cs .0)) (reached-at (granted b n 0 cs))
 
-    -- one more call is refused exactly when its answer is a refusal
+    -- the table refuses one more call exactly when its answer is a refusal
     pub list-refused : (cs : List Call) (c : Call) → (refuses b n (granted b n 0 cs) c ≡ true) ↔ ((k : ℕ) × (runTold (call (after (freshSearch b) cs) c .0 .answer) ≡ refuse k))
     list-refused cs c =
         subst (λ (x : Search). (refuses b n (granted b n 0 cs) c ≡ true) ↔ ((k : ℕ) × (runTold (call x c .0 .answer) ≡ refuse k)))

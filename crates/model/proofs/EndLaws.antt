@@ -100,11 +100,11 @@ module _ (b : Batch) where
   unfolding nodes freshSearch searchOf
   nodes-fresh k = refl
 
-  pub nodes-past : (n k : ℕ) → Ends b n → n ≤ k → nodes k (freshSearch b) ≡ nodes n (freshSearch b)
+  pub nodes-past : (n k : ℕ) → nodes n (freshSearch b) .ended ≡ true → n ≤ k → nodes k (freshSearch b) ≡ nodes n (freshSearch b)
   unfolding nodes freshSearch searchOf
   nodes-past n k e h =
       ap (λ (i : ℕ). nodesOn (clashes b) i (freshSearch b)) (split h)
-      ∙ nodes-more n (k - n) (freshSearch b) ∙ nodes-ended (k - n) (nodesOn (clashes b) n (freshSearch b)) (e .ended)
+      ∙ nodes-more n (k - n) (freshSearch b) ∙ nodes-ended (k - n) (nodesOn (clashes b) n (freshSearch b)) e
     where
       split : n ≤ k → k ≡ n + (k - n)
       split h = omega arith
@@ -116,18 +116,9 @@ module _ (b : Batch) where
   pub ends-least : (n m : ℕ) → Ends b n → nodes m (freshSearch b) .ended ≡ true → n ≤ m
   ends-least n m e h = go (decLe n m)
     where
-      at-m : ¬ (n ≤ m) → nodes n (freshSearch b) ≡ nodes m (freshSearch b)
-      at-m g =
-          nodes-fresh n ∙ ap (λ (i : ℕ). nodesOn (clashes b) i (freshSearch b)) (split g) ∙ nodes-more m (n - m) (freshSearch b)
-          ∙ nodes-ended (n - m) (nodesOn (clashes b) m (freshSearch b)) (ap (λ (s : Search). s .ended) (sym (nodes-fresh m)) ∙ h)
-          ∙ sym (nodes-fresh m)
-        where
-          split : ¬ (n ≤ m) → n ≡ m + (n - m)
-          split g = omega arith
-
       go : Dec (n ≤ m) → n ≤ m
       go (yes g) = g
-      go (no g) = absurd (omega (arith, e .total, ap (λ (s : Search). s .total) (at-m g), total-most m))
+      go (no g) = absurd (omega (arith, e .total, ap (λ (s : Search). s .total) (nodes-past m n h (omega arith)), total-most m))
 
   pub ends-unique : (n m : ℕ) → Ends b n → Ends b m → m ≡ n
   ends-unique n m e f = omega (arith, ends-least n m e (f .ended), ends-least m n f (e .ended))

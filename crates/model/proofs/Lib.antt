@@ -17,13 +17,13 @@ pub mod GoodLaws
 pub mod BoundLaws
 pub mod EndLaws
 pub mod SoundLaws
+pub mod LeaveLaws
 pub mod CallLaws
 pub mod LineLaws
 pub mod LimitLaws
 pub mod ReadLaws
 pub mod FrameLaws
 pub mod FileLaws
-pub mod LeaveLaws
 pub mod OpenLaws
 pub mod PinLaws
 pub mod ProgramLaws

@@ -1,6 +1,6 @@
 -- Opening accepts exactly the files of document 01's format whose delays can be met, and yields a sound fresh search, which ends. Its batch text is the file,
 -- and its plans are valid, after every list of calls.
-use Prim.Native.Nat.{ℕ, min}
+use Prim.Native.Nat.{ℕ, _≤_, min}
 use mathlib.Core.Path.{_≡_, refl, ap, sym, _∙_, subst}
 use mathlib.Core.Logic.{_↔_}
 use mathlib.Core.Bool.{Bool, true, false}
@@ -20,15 +20,15 @@ use Rattle.model.specs.Batch.{ticks, delaysOf}
 use Rattle.model.specs.Plan.{KeepsDelays, Valid, latency}
 use Rattle.model.specs.Clash.{clashes}
 use Rattle.model.specs.Starts.{leastStarts}
-use Rattle.model.specs.Search.{placeOf, freshPlace, freshSearch, nodes}
+use Rattle.model.specs.Search.{placeOf, freshPlace, freshSearch, nodes, Ends, nodeLimit}
 use Rattle.model.specs.Format.{Within, batchFile, BatchFile}
 use Rattle.model.specs.Open.{countsOk, ticksOk, jobsOk, weightOk, fewClashes, delaysMet, openFile, openedAs, opened}
 use Rattle.model.specs.Sound.{soundBatch, soundBest, sound}
 use Rattle.model.specs.Run.{runRefusal, ran}
 use Rattle.model.specs.Text.{planLines, planText, batchText}
 use Rattle.model.specs.Answers.{plan, runTold, verdictOf, openTold, bestTold}
-use Rattle.model.specs.Calls.{Call, call, after, granted}
-use Rattle.model.specs.Demands.{PlanWith, RunLeaves}
+use Rattle.model.specs.Calls.{Call, call, after, refuses, granted}
+use Rattle.model.specs.Demands.{RunLeaves, PlanWith, Reached, AnswerFor}
 use Rattle.model.proofs.BoolLaws.{apart}
 use Rattle.model.proofs.ListLaws.{all-each, each-all, count-some}
 use Rattle.model.proofs.OutcomeLaws.{refused, accept-eq}
@@ -36,7 +36,7 @@ use Rattle.model.proofs.StartsLaws.{Inside, least-length, least-keeps, 
 use Rattle.model.proofs.GoodLaws.{good-none, ValidBest}
 use Rattle.model.proofs.EndLaws.{End, search-ends, best-valid, nodes-fresh}
 use Rattle.model.proofs.SoundLaws.{Passes, sound-passes, passes-sound, fits, place-sound}
-use Rattle.model.proofs.CallLaws.{after-fresh, at-batch}
+use Rattle.model.proofs.CallLaws.{at-batch, after-fresh, list-reached, list-refused, list-answered}
 use Rattle.model.proofs.LimitLaws.{jobs-iff, within-limits}
 use Rattle.model.proofs.FileLaws.{read-format, open-read}
 use Rattle.model.proofs.LeaveLaws.{running-leaves}
@@ -135,34 +135,48 @@ module _ (file : List ℕ) (b : Batch) (f : BatchFile file b) where
   abbrev passes : Passes b
   passes = file-passes file b f
 
-  abbrev n : ℕ
-  n = file-ends file b f .0
+  -- its N
+  abbrev pub N : ℕ
+  N = file-ends file b f .0
 
-  abbrev end : End b (fits b passes) n
+  abbrev end : End b (fits b passes) N
   end = file-ends file b f .1
 
+  pub file-end : Ends b N × (N ≤ nodeLimit b)
+  file-end = (end .ends, end .bound)
+
+  -- every list of calls: the record, and whether the table refuses one more and how that is answered
+  pub after-reached : (cs : List Call) → Reached b N (granted b N 0 cs) (after (freshSearch b) cs)
+  after-reached = list-reached b passes N end (fresh-sound b passes)
+
+  pub after-refused : (cs : List Call) (c : Call) → (refuses b N (granted b N 0 cs) c ≡ true) ↔ ((k : ℕ) × (runTold (call (after (freshSearch b) cs) c .0 .answer) ≡ refuse k))
+  after-refused = list-refused b passes N end (fresh-sound b passes)
+
+  pub after-answered : (cs : List Call) (c : Call) → let x = call (after (freshSearch b) cs) c in refuses b N (granted b N 0 cs) c ≡ false → AnswerFor b N (granted b N 0 (cs ++ (c ∷ []))) (runTold (x .0 .answer)) (x .1)
+  after-answered = list-answered b passes N end (fresh-sound b passes)
+
   -- the record after a list of calls: it is sound, of this batch, and some number of nodes on
-  record AfterList (s : Search) : Type 0 where
+  record AfterCalls (s : Search) : Type 0 where
     is-sound : sound s ≡ true
     k : ℕ
     is : s ≡ nodes k (freshSearch b)
     batch : s .batch ≡ b
 
-  after-list : (cs : List Call) → AfterList (after (freshSearch b) cs)
-  after-list cs =
-      let r = after-fresh b passes n end (fresh-sound b passes) cs in
+  after-calls : (cs : List Call) → AfterCalls (after (freshSearch b) cs)
+  after-calls cs =
+      let r = after-fresh b passes N end (fresh-sound b passes) cs in
       record {
         is-sound = ap sound (r .0) ∙ r .1;
-        k = min (granted b n 0 cs) n;
+        k = min (granted b N 0 cs) N;
         is = r .0;
-        batch = ap (λ (s : Search). s .batch) (r .0) ∙ at-batch b passes n end (min (granted b n 0 cs) n);
+        batch = ap (λ (s : Search). s .batch) (r .0) ∙ at-batch b passes N end (min (granted b N 0 cs) N);
       }
 
   -- the batch text is the file
   pub written-back : (cs : List Call) → batchText (after (freshSearch b) cs) ≡ accept file
   unfolding batchText require _>>=_
   written-back cs =
-      let a = after-list cs in
+      let a = after-calls cs in
       rw (a .is-sound) (ap (λ (c : Batch). accept (batchFile c)) (a .batch) ∙ ap accept (sym (f .text)))
 
   -- the plan text is that of the record's best
@@ -170,7 +184,7 @@ module _ (file : List ℕ) (b : Batch) (f : BatchFile file b) where
   unfolding planText require _>>=_
   text-plans cs e =
       let s = after (freshSearch b) cs in
-      let a = after-list cs in
+      let a = after-calls cs in
       rw (a .is-sound, e) (ap (λ (c : Batch). accept (planLines (s .best) (c .n) (s .starts) (s .total))) (a .batch))
 
   -- best is a valid plan with its latency
@@ -182,7 +196,7 @@ module _ (file : List ℕ) (b : Batch) (f : BatchFile file b) where
   pub best-plans : (cs : List Call) → let s = after (freshSearch b) cs in (l : ℕ) → bestTold (s .best) ≡ some l → PlanWith b (s .starts) l
   unfolding placeOf
   best-plans cs =
-      let a = after-list cs in
+      let a = after-calls cs in
       subst (λ (s : Search). (l : ℕ) → bestTold (s .best) ≡ some l → PlanWith b (s .starts) l) (sym (a .is ∙ nodes-fresh b (a .k)))
       (valid-best _ _ (best-valid b (fits b passes) (a .k) .good .best))
 
@@ -210,7 +224,7 @@ module _ (file : List ℕ) (b : Batch) (f : BatchFile file b) where
           let p : PlanWith b starts l =
           subst (λ (x : Search). (l : ℕ) → bestTold (x .best) ≡ some l → PlanWith b (x .starts) l) (after-append (freshSearch b) cs c) (best-plans (cs ++ (c ∷ []))) l
           (told-best _ _ _ l t (accept-eq (sym (leaves .reached g .1) ∙ e))) in
-          let z = leaves .plan-list l t e ∙ ap (λ (x : Batch). take (x .n) starts ++ drop (x .n) (c .starts)) (after-list cs .batch) in
+          let z = leaves .plan-list l t e ∙ ap (λ (x : Batch). take (x .n) starts ++ drop (x .n) (c .starts)) (after-calls cs .batch) in
           let placed = take-at (take (b .n) starts) (drop (b .n) (c .starts)) (b .n) (p .0 .starts) in
           subst (λ (list : List ℕ). Valid b list × (latency b list ≡ l)) (sym (ap (take (b .n)) z ∙ placed)) p
 

@@ -1,5 +1,5 @@
--- The statements of the demands are pinned: two results that meet one of them for the same inputs are equal, as far as it speaks of them. A statement that
--- is written weaker leaves a result open, and its law here fails.
+-- What the demands are made of is pinned: two results that meet one of these statements for the same inputs are equal, as far as it speaks of them, and what a
+-- statement says beside its result is read out of it once. Where one is written weaker, its law here fails. planner/proofs/Pins does the same for the demands.
 use Prim.Native.Nat.{ℕ, _≤_, _<_, min}
 use mathlib.Core.Path.{_≡_, refl, ap, sym, _∙_}
 use mathlib.Core.List.{List, _++_}
@@ -20,9 +20,10 @@ use Rattle.model.specs.Common.{Outcome, refuse, accept}
 use Rattle.model.specs.Plan.{Valid, Shortest, latency}
 use Rattle.model.specs.Format.{BatchFile}
 use Rattle.model.specs.Open.{openFile}
+use Rattle.model.specs.Sound.{sound}
 use Rattle.model.specs.Run.{runRefusal}
 use Rattle.model.specs.Answers.{Verdict, spent, plan, noPlan, runTold, totalTold, verdictOf, openTold, writeTold, bestTold}
-use Rattle.model.specs.Demands.{OpeningLeaves, RunLeaves, WritingLeaves, Reached, AnswerFor}
+use Rattle.model.specs.Demands.{OpeningLeaves, RunLeaves, WritingLeaves, PlanWith, Reached, AnswerFor}
 use Rattle.model.proofs.OutcomeLaws.{accept-eq}
 use Rattle.model.proofs.OpenLaws.{open-format}
 
@@ -111,6 +112,10 @@ run-pinned s budget list r r′ after after′ h h′ = by (runRefusal s budget 
         let told = x .1 ∙ ap (λ (z : Search). accept (verdictOf (z .ended) (bestTold (z .best)) (z .total))) searches in
         whole (told ∙ sym (x′ .1)) searches (lists _ told (x′ .1) searches)
 
+-- beside the result: a run keeps the batch, and soundness
+pub run-keeps : (s : Search) (budget : ℕ) (list : List ℕ) (r : Ran) (after : List ℕ) → RunLeaves s budget list r after → (r .search .batch ≡ s .batch) × (sound (r .search) ≡ sound s)
+run-keeps s budget list r after h = (h .batch, h .sound-kept)
+
 pub writing-pinned : (text : Outcome (List ℕ)) (buffer : List ℕ) (w w′ : Written) (after after′ : List ℕ) → WritingLeaves text buffer w after → WritingLeaves text buffer w′ after′ → _≡_ {A = Written × List ℕ} (w, after) (w′, after′)
 writing-pinned text buffer w w′ after after′ h h′ = by text refl
   where
@@ -128,15 +133,24 @@ writing-pinned text buffer w w′ after after′ h h′ = by text refl
         room (yes p) = whole _ _ (h .fits t e p) (h′ .fits t e p)
         room (no p) = let q : length buffer < length t = omega arith in whole _ _ (h .long t e q) (h′ .long t e q)
 
--- ---- demand 2: a file's batch, and the latency of a shortest plan
+-- ---- demand 2: a file's batch, and a list's plan
 
 pub batch-pinned : (file : List ℕ) (b c : Batch) → BatchFile file b → BatchFile file c → b ≡ c
 batch-pinned file b c f g = accept-eq (sym (open-format file b .1 f) ∙ open-format file c .1 g)
 
+pub plan-pinned : (b : Batch) (list : List ℕ) (l l′ : ℕ) → PlanWith b list l → PlanWith b list l′ → l ≡ l′
+unfolding PlanWith
+plan-pinned b list l l′ h h′ = sym (h .1) ∙ h′ .1
+
+-- it is the list's first n places that are valid
+pub plan-valid : (b : Batch) (list : List ℕ) (l : ℕ) → PlanWith b list l → Valid b (take (b .n) list)
+unfolding PlanWith
+plan-valid b list l h = h .0
+
+-- ---- demand 3: the latency of a shortest plan, the record after a list of calls, and the last answer. (N is pinned by EndLaws: ends-unique.)
+
 pub shortest-pinned : (b : Batch) (ts us : List ℕ) → Shortest b ts → Shortest b us → latency b ts ≡ latency b us
 shortest-pinned b ts us h k = omega (arith, h .least us (k .valid), k .least ts (h .valid))
-
--- ---- demand 3: the record after a list of calls, and the last answer. (N is pinned by EndLaws: ends-unique.)
 
 pub reached-pinned : (b : Batch) (N S : ℕ) (r r′ : Search) → Reached b N S r → Reached b N S r′ → r ≡ r′
 reached-pinned b N S r r′ h h′ = h .is ∙ sym (h′ .is)
@@ -182,3 +196,8 @@ answer-pinned b N S a a′ list list′ h h′ = h .answered ∙ ap accept (by (
         let never : (ts : List ℕ) → ¬ Valid b ts = λ ts v. let x = h .is-plan most ts v in let z : _≡_ {A = ℕ} 0 1 = cc (x .1) in omega arith in
         let all : t ≡ N = omega (arith, total (noPlan t) e) in
         e ∙ ap noPlan all ∙ sym (h′ .is-none most never)
+
+-- the plan that is told is the list's first n places
+pub answer-plan : (b : Batch) (N S l t : ℕ) (list : List ℕ) → AnswerFor b N S (accept (plan l t)) list → PlanWith b list l
+unfolding PlanWith
+answer-plan b N S l t list h = let short = h .shortest l t (accept-eq (sym (h .answered))) in (short .0 .valid, short .1)

@@ -13,13 +13,13 @@ use Rattle.model.specs.declared.Search.{Search}
 use Rattle.model.specs.declared.Ran.{Ran}
 use Rattle.model.specs.Common.{Outcome, refuse, accept, _>>=_}
 use Rattle.model.specs.Limits.{mostJobs, mostBudget, mostTotal}
-use Rattle.model.specs.Search.{nodesOn, nodes, freshSearch}
+use Rattle.model.specs.Search.{nodes, freshSearch}
 use Rattle.model.specs.Run.{runRefusal, answerOf, answered, ranAs, ran}
 use Rattle.model.specs.Answers.{Verdict, spent, plan, noPlan, runTold}
 use Rattle.model.specs.Program.{goOn, planned}
 use Rattle.model.proofs.BoolLaws.{apart}
 use Rattle.model.proofs.OutcomeLaws.{refused}
-use Rattle.model.proofs.EndLaws.{nodes-total, fresh-total}
+use Rattle.model.proofs.EndLaws.{nodes-ended, nodes-total, fresh-total}
 use Rattle.model.proofs.LeaveLaws.{run-sound}
 
 -- ---- a spent run uses up its budget
@@ -33,13 +33,12 @@ spent-open true (Latency l) total t h = let z : _≡_ {A = ℕ} 0 1 = cc in absu
 
 -- nodes on an ended search leave it ended
 open-before : (k : ℕ) (s : Search) → nodes k s .ended ≡ false → s .ended ≡ false
-unfolding nodes nodesOn
-open-before zero s e = e
-open-before (suc k) s e = go (s .ended) refl
+unfolding nodes
+open-before k s e = go (s .ended) refl
   where
     go : (p : Bool) → s .ended ≡ p → s .ended ≡ false
     go false q = q
-    go true q = apart (sym (rw q at e))
+    go true q = ap (λ (x : Search). x .ended) (sym (nodes-ended (s .batch) k s q)) ∙ e
 
 -- so total rises by the budget, and stays within its limit
 spent-total : (s : Search) (budget : ℕ) (list : List ℕ) (t : ℕ) → runTold (ran s budget list .0 .answer) ≡ accept (spent t)

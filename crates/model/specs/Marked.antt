@@ -11,7 +11,7 @@ use lib.Dec.{eqb}
 use Rattle.model.specs.declared.Batch.{Batch}
 use Rattle.model.specs.declared.Search.{Search}
 use Rattle.model.specs.Common.{if_then_else_, Outcome, refuse, accept, _>>=_}
-use Rattle.model.specs.Search.{nodes, freshSearch, nodeLimit}
+use Rattle.model.specs.Search.{nodes, freshSearch, Ends, nodeLimit}
 use Rattle.model.specs.Open.{opened}
 use Rattle.model.specs.Run.{ran}
 use Rattle.model.specs.Answers.{Verdict, spent, plan, noPlan, runTold, openTold}
@@ -106,7 +106,7 @@ rows =
     -- a refused run changes nothing
     ∷ opens c3 (2 ∷ 1000001 ∷ 1 ∷ []) 3 (spentAt 2 ∷ refusedRun 11 ∷ planAt 3 3 (1 ∷ 0 ∷ []) ∷ [])
     -- the refusals' numbers and order: 1 before 2, 2 before 3, 3 before 4, 2 before 4, 5 before 6, 8 before 10
-    ∷ refusedWith 1 (fileOf "A0010100 A101000g")
+    ∷ refusedWith 1 (fileOf "A00100g")
     ∷ refusedWith 2 (fileOf "A00201")
     ∷ refusedWith 3 (fileOf "A0020000")
     ∷ refusedWith 2 (fileOf "A0010100 A1110001")
@@ -124,11 +124,11 @@ runs s (k ∷ ks) = let (r, list) = ran s k untouched in record { answer = runTo
 unfoldable pub endsAt : Batch → ℕ → Bool
 endsAt b n = let s = nodes n (freshSearch b) in s .ended && eqb (s .total) n
 
-unfoldable pub shown : Row → Batch → Shown
-shown r b = record { runs = runs (freshSearch b) (r .budgets); ends = endsAt b (r .n) }
+unfoldable pub shown : Row → Search → Shown
+shown r s = record { runs = runs s (r .budgets); ends = endsAt (s .batch) (r .n) }
 
 unfoldable pub gives : Row → Outcome Shown
-gives r = let o = opened (r .file) in openTold (o .answer) >>= λ u. accept (shown r (o .search .batch))
+gives r = let o = opened (r .file) in openTold (o .answer) >>= λ u. accept (shown r (o .search))
 
 pub marked : map gives rows ≡ map (λ r. r .stated) rows
 unfolding definitions rows refusedWith opens untouched planAt spentAt noPlanAt refusedRun c3 once gives shown runs endsAt characters fileOf
@@ -140,8 +140,15 @@ pub printed-c3 : textFor (fileOf c3) ≡ fileOf "B00102000300000003 B1000001 B10
 unfolding definitions characters fileOf c3
 printed-c3 = refl
 
--- ---- the bound on N: C3 has one clash and takes 3 nodes, as many as 2^(D+1) − 1 allows
+-- ---- the bound on N is reached: C3 has one clash and takes 3 nodes, and a batch of two clashes without a plan takes 7
 
-pub limit-c3 : nodeLimit (opened (fileOf c3) .search .batch) ≡ 3
+pub limit-c3 : let b = opened (fileOf c3) .search .batch in Ends b (nodeLimit b)
 unfolding definitions characters fileOf c3
-limit-c3 = refl
+limit-c3 = record { ended = refl; total = refl }
+
+unfoldable pub twoClashes : String
+twoClashes = "A0010402 A1010001 A1010001 A1010002 A1010002 A202030000 A203020000"
+
+pub limit-two : let b = opened (fileOf twoClashes) .search .batch in Ends b (nodeLimit b)
+unfolding definitions characters fileOf twoClashes
+limit-two = record { ended = refl; total = refl }

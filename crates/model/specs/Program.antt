@@ -1,5 +1,5 @@
 -- The program `plan`: from the bytes of a batch file to the text that it prints. Which bytes are the file, the first 65,536 of standard input or all if
--- fewer, no definition can say: what is read and written is tested.
+-- fewer, no contract can say: what is read and written is tested.
 use Prim.Native.Nat.{ℕ, zero, suc}
 use mathlib.Core.List.{List, _++_}
 use lib.ListN.{length, drop, replicate}

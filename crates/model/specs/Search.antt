@@ -5,7 +5,7 @@ use mathlib.Core.List.{List, [], _∷_, _++_, map}
 use mathlib.Core.Option.{Option, none, some}
 use mathlib.Core.Path.{_≡_}
 use lib.ListN.{getD, replicate, length}
-use lib.IntN.{ℤ, pos, _+ℤ_, _-ℤ_, subℕ}
+use lib.IntN.{pos, _+ℤ_, _-ℤ_, subℕ}
 use lib.Dec.{leb, eqb}
 use Rattle.model.specs.declared.Delay.{Delay}
 use Rattle.model.specs.declared.Batch.{Batch}

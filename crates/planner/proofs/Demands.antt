@@ -19,11 +19,9 @@ use Rattle.model.specs.Text.{planLines, planText, batchText, written}
 use Rattle.model.specs.Answers.{plan, runTold, openTold, bestTold}
 use Rattle.model.specs.Calls.{Call, call, after, granted}
 use Rattle.model.specs.Demands.{OpeningLeaves, RunLeaves, WritingLeaves, PlanWith, Reached}
-use Rattle.model.proofs.SoundLaws.{Passes, fits}
-use Rattle.model.proofs.EndLaws.{End, ends-unique}
-use Rattle.model.proofs.CallLaws.{list-reached, list-refused, list-answered}
+use Rattle.model.proofs.EndLaws.{ends-unique}
 use Rattle.model.proofs.LeaveLaws.{opening-leaves, running-leaves, writing-leaves}
-use Rattle.model.proofs.OpenLaws.{file-passes, fresh-sound, file-ends, after-append, written-back, best-plans, answer-plans, text-plans, opens, yields}
+use Rattle.model.proofs.OpenLaws.{after-append, N, file-end, after-reached, after-refused, after-answered, written-back, best-plans, answer-plans, text-plans, opens, yields}
 use Rattle.planner.specs.Demands.{Called, none, more, Demand1, Demand2, LastCall, Demand3, Demands}
 
 -- the record after the calls is the definitions' one
@@ -60,7 +58,8 @@ demand-2 file o e =
       answer-plans = λ b f cs s h c r list′ m.
           let z = m ∙ ap (λ (x : Search). ran x (c .budget) (c .starts)) (at b f cs s h) in
           subst (λ (x : Ran × List ℕ). (l t : ℕ) → runTold (x .0 .answer) ≡ accept (plan l t) → PlanWith b (x .1) l) (sym z) (answer-plans file b f cs c);
-      text-plans = λ b f cs s h. subst (λ (x : Search). x .ended ≡ true → planText x ≡ accept (planLines (x .best) (b .n) (x .starts) (x .total))) (sym (at b f cs s h)) (text-plans file b f cs);
+      text-plans = λ b f cs s h e buffer w buffer′ room m.
+          writing (planText s) buffer w buffer′ m .fits _ (text b f cs s h e) room;
     }
   where
     fresh : (b : Batch) → BatchFile file b → o .search ≡ freshSearch b
@@ -69,40 +68,29 @@ demand-2 file o e =
     at : (b : Batch) → BatchFile file b → (cs : List Call) (s : Search) → Called (o .search) cs s → s ≡ after (freshSearch b) cs
     at b f cs s h = called-after h ∙ ap (λ (x : Search). after x cs) (fresh b f)
 
+    text : (b : Batch) → BatchFile file b → (cs : List Call) (s : Search) → Called (o .search) cs s → s .ended ≡ true → planText s ≡ accept (planLines (s .best) (b .n) (s .starts) (s .total))
+    text b f cs s h = subst (λ (x : Search). x .ended ≡ true → planText x ≡ accept (planLines (x .best) (b .n) (x .starts) (x .total))) (sym (at b f cs s h)) (text-plans file b f cs)
+
 -- ---- demand 3
 
-module _ (file : List ℕ) (b : Batch) (f : BatchFile file b) where
-  abbrev passes : Passes b
-  passes = file-passes file b f
-
-  abbrev N : ℕ
-  N = file-ends file b f .0
-
-  abbrev end : End b (fits b passes) N
-  end = file-ends file b f .1
-
-  of-fresh : Demand3 (freshSearch b)
-  unfolding freshSearch searchOf call
-  of-fresh =
-      record {
-        N = N;
-        ends = end .ends;
-        only = λ m h. ends-unique b N m (end .ends) h;
-        bound = end .bound;
-        lists = λ cs s h.
-            record {
-              reached = subst (Reached b N (granted b N 0 cs)) (sym (called-after h)) (list-reached b passes N end (fresh-sound b passes) cs);
-              last = λ before c e t k r list′ z.
-                  let is : s ≡ call (after (freshSearch b) before) c .0 .search = called-after h ∙ ap (after (freshSearch b)) e ∙ after-append (freshSearch b) before c in
-                  let y = z ∙ ap (λ (x : Search). ran x (c .budget) (c .starts)) (called-after k) in
-                  subst (λ (x : Ran × List ℕ). LastCall b N before c s (x .0) (x .1)) (sym y)
-                  (record {
-                    returned = sym is;
-                    refused = list-refused b passes N end (fresh-sound b passes) before c;
-                    answered = list-answered b passes N end (fresh-sound b passes) before c;
-                  });
-            };
-      }
+of-fresh : (file : List ℕ) (b : Batch) → BatchFile file b → Demand3 (freshSearch b)
+unfolding freshSearch searchOf call
+of-fresh file b f =
+    record {
+      N = N file b f;
+      ends = file-end file b f .0;
+      only = λ m h. ends-unique b (N file b f) m (file-end file b f .0) h;
+      bound = file-end file b f .1;
+      lists = λ cs s h.
+          record {
+            reached = subst (Reached b (N file b f) (granted b (N file b f) 0 cs)) (sym (called-after h)) (after-reached file b f cs);
+            last = λ before c e t k r list′ z.
+                let is : s ≡ call (after (freshSearch b) before) c .0 .search = called-after h ∙ ap (after (freshSearch b)) e ∙ after-append (freshSearch b) before c in
+                let y = z ∙ ap (λ (x : Search). ran x (c .budget) (c .starts)) (called-after k) in
+                subst (λ (x : Ran × List ℕ). LastCall b (N file b f) before c s (x .0) (x .1)) (sym y)
+                (record { returned = sym is; refused = after-refused file b f before c; answered = after-answered file b f before c });
+          };
+    }
 
 pub demand-3 : (file : List ℕ) (o : Opened) → o ≡ opened file → openTold (o .answer) ≡ accept tt → Demand3 (o .search)
 demand-3 file o e h =

@@ -38,19 +38,25 @@ pub record Demand1 : Type 0 where
 -- ---- demand 2: what is opened, that it is written back, and the plans of a search opened here
 
 pub record Demand2 (file : List ℕ) (o : Opened) : Type 0 where
+  -- opened if and only if it keeps the format and limits and its delays can be met; then with the fresh search of its batch
   pub opens : (openTold (o .answer) ≡ accept tt) ↔ ((b : Batch) × BatchFile file b)
   pub yields : (b : Batch) → BatchFile file b → o .search ≡ freshSearch b
+  -- written back byte for byte, after every list of runs
   pub written-back :
       (b : Batch) → BatchFile file b → (cs : List Call) (s : Search) → Called (o .search) cs s
       → (buffer : List ℕ) (w : Written) (buffer′ : List ℕ) → length file ≤ length buffer → (w, buffer′) ≡ written (batchText s) buffer
       → (writeTold w ≡ accept (length file)) × (buffer′ ≡ file ++ drop (length file) buffer)
+  -- every plan of a search opened here is valid, with its latency: as best in the record, in an answer with its starts list, and in the plan text, which is
+  -- that of best
   pub best-plans : (b : Batch) → BatchFile file b → (cs : List Call) (s : Search) → Called (o .search) cs s → (l : ℕ) → bestTold (s .best) ≡ some l → PlanWith b (s .starts) l
   pub answer-plans :
       (b : Batch) → BatchFile file b → (cs : List Call) (s : Search) → Called (o .search) cs s
       → (c : Call) (r : Ran) (list′ : List ℕ) → (r, list′) ≡ ran s (c .budget) (c .starts) → (l t : ℕ) → runTold (r .answer) ≡ accept (plan l t) → PlanWith b list′ l
   pub text-plans :
       (b : Batch) → BatchFile file b → (cs : List Call) (s : Search) → Called (o .search) cs s → s .ended ≡ true
-      → planText s ≡ accept (planLines (s .best) (b .n) (s .starts) (s .total))
+      → let text = planLines (s .best) (b .n) (s .starts) (s .total) in
+      (buffer : List ℕ) (w : Written) (buffer′ : List ℕ) → length text ≤ length buffer → (w, buffer′) ≡ written (planText s) buffer
+      → (writeTold w ≡ accept (length text)) × (buffer′ ≡ text ++ drop (length text) buffer)
 
 -- ---- demand 3: every list of run calls on a freshly opened search
 
