@@ -62,7 +62,7 @@ pub enum Answer {
     },
     /// The search has ended, and [`Search::plan`] is the shortest valid plan.
     Plan {
-        /// The plan's latency: the largest start + ticks over the jobs.
+        /// The plan's latency: the latest end of a job, its start plus its ticks.
         latency: u16,
         /// Nodes that the search took.
         total: u32,
@@ -84,7 +84,7 @@ pub struct Plan {
 }
 
 impl Plan {
-    /// The latency: the largest start + ticks over the jobs.
+    /// The latency: the latest end of a job, its start plus its ticks.
     #[must_use]
     pub fn latency(&self) -> u16 {
         self.latency
