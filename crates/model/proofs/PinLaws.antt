@@ -5,7 +5,7 @@ use mathlib.Core.Path.{_≡_, refl, ap, sym, _∙_}
 use mathlib.Core.List.{List, _++_}
 use native.Mathlib.Omega.{arith}
 use native.Mathlib.Decide.{decLe}
-use lib.ListN.{length, take, drop}
+use lib.ListN.{length, take, drop, length-take}
 use Rattle.model.specs.declared.Batch.{Batch}
 use Rattle.model.specs.declared.Search.{Search}
 use Rattle.model.specs.declared.Opening.{Opening}
@@ -146,6 +146,10 @@ plan-pinned b list l l′ h h′ = sym (h .1) ∙ h′ .1
 pub plan-valid : (b : Batch) (list : List ℕ) (l : ℕ) → PlanWith b list l → Valid b (take (b .n) list)
 unfolding PlanWith
 plan-valid b list l h = h .0
+
+-- and they are n: each job has a place in the list
+pub plan-placed : (b : Batch) (list : List ℕ) (l : ℕ) → PlanWith b list l → b .n ≤ length list
+plan-placed b list l h = omega (arith, length-take (b .n) list, plan-valid b list l h .starts)
 
 -- ---- demand 3: the latency of a shortest plan, the record after a list of calls, and the last answer. (N is pinned by EndLaws: ends-unique.)
 
