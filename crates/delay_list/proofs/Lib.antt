@@ -1,2 +1,2 @@
--- The laws of reading delays by fours.
-pub mod FourLaws
+-- The laws of the columns of a list.
+pub mod ColumnLaws

@@ -1,2 +1,2 @@
--- Four delays of a list, and which four a place is among.
-pub mod Four
+-- The columns of a list of delays.
+pub mod Columns

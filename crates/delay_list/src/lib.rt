@@ -1,49 +1,54 @@
-// The delays of a batch as one list of records: how many there are, and each by its place. A batch's array is lent as a list for four
-// records at a time.
+// The delays of a batch as one list of records, walked from the first to the last. What is left of the walk are three parallel arrays, the
+// columns of the list, out of which each delay can be read again.
 use model::Delay;
 ghost use mathlib.Core.Path.{_≡_};
-ghost use Prim.Native.Nat.{_+_, _≤_, _<_};
-ghost use lib.ListN.{length, getD};
-ghost use Rattle.model.specs.Batch.{blankDelay};
-ghost use Rattle.delay_list.specs.Four.{fourFrom, fourOf, AtHand};
+ghost use Prim.Native.Nat.{_≤_, _<_};
+ghost use lib.ListN.{length, set};
+ghost use Rattle.delay_list.specs.Columns.{columnsOf, delayIn};
 
-// How many delays a list has.
-pub fn delay_len(list: &[Delay]) -> usize
-    ensures { λ r. ⌜ r ≡ length (now (list .entry)) ⌝ }
-{
-    list.len()
+// Place k of each column is a part of delay k. The places past the last delay are 0.
+pub struct Columns {
+    pub from: [u8; 128],
+    pub to: [u8; 128],
+    pub weight: [i16; 128],
 }
 
-// The delay at a place of a list.
-pub fn delay_at(list: &[Delay], k: usize) -> Delay
-    requires { ⌜ k < length (now list) ⌝ }
-    ensures { λ r. ⌜ r ≡ getD (now (list .entry)) k blankDelay ⌝ }
-{
-    list[k]
-}
-
-// Four delays of a batch's array, from a place on.
-fn four_delays(delays: [Delay; 128], k: usize) -> [Delay; 4]
-    requires { ⌜ k + 4 ≤ 128 ⌝ }
-    ensures { λ r. ⌜ r ≡ fourFrom delays k ⌝ }
-{
-    let list: &[Delay] = &delays;
-    [
-        delay_at(list, k),
-        delay_at(list, k + 1),
-        delay_at(list, k + 2),
-        delay_at(list, k + 3),
-    ]
-}
-
-// The four delays that place k is among: read where k is the first of them, and else those at hand.
-pub fn four_of(delays: [Delay; 128], four: [Delay; 4], k: usize) -> [Delay; 4]
+// The parts of a delay, each stored in its column at place k.
+fn store(q: Delay, k: usize, from: &mut [u8; 128], to: &mut [u8; 128], weight: &mut [i16; 128])
     requires { ⌜ k < 128 ⌝ }
-    requires { ⌜ AtHand delays four k ⌝ }
-    ensures { λ r. ⌜ r ≡ fourOf delays k ⌝ }
+    ensures { λ _. ⌜ (now (from .exit) ≡ set (now (from .entry)) k (q .from)) × ((now (to .exit) ≡ set (now (to .entry)) k (q .to)) × (now (weight .exit) ≡ set (now (weight .entry)) k (q .weight))) ⌝ }
 {
-    if k % 4 == 0 {
-        return four_delays(delays, k);
+    from[k] = q.from;
+    to[k] = q.to;
+    let w = q.weight;
+    weight[k] = w;
+}
+
+// The columns of a list.
+pub fn list_columns(list: &[Delay]) -> Columns
+    requires { ⌜ length (now list) ≤ 128 ⌝ }
+    ensures { λ r. ⌜ r ≡ columnsOf (now (list .entry)) (length (now (list .entry))) ⌝ }
+{
+    let mut from = [0u8; 128];
+    let mut to = [0u8; 128];
+    let mut weight = [0i16; 128];
+    let mut k: usize = 0;
+    while k < list.len() {
+        store(list[k], k, &mut from, &mut to, &mut weight);
+        k = k + 1;
     }
-    four
+    Columns { from, to, weight }
+}
+
+// Delay k of a list, read out of its columns.
+pub fn delay_at(from: &[u8; 128], to: &[u8; 128], weight: &[i16; 128], k: usize) -> Delay
+    requires { ⌜ k < 128 ⌝ }
+    ensures { λ r. ⌜ r ≡ delayIn (record { from = now (from .entry); to = now (to .entry); weight = now (weight .entry) }) k ⌝ }
+{
+    let w = weight[k];
+    Delay {
+        from: from[k],
+        to: to[k],
+        weight: w,
+    }
 }

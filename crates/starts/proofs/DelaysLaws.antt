@@ -1,99 +1,94 @@
--- Reading a batch: what a loop over its delays or jobs has tested and copied, and the arrays after it.
+-- Reading a batch: what a loop over its delays or jobs has tested, coded and copied, and the arrays after it.
 use mathlib.Core.Path.{_≡_, refl, ap, _∙_}
 use mathlib.Core.Bool.{Bool, true, false, _&&_, not}
 use mathlib.Core.List.{List, []}
-use Prim.Native.Nat.{ℕ, _+_, _≤_, _<_}
+use Prim.Native.Nat.{ℕ, zero, suc, _+_, _≤_, _<_}
 use native.Mathlib.Omega.{arith}
 use lib.ListN.{getD, set, replicate}
 use Rattle.model.specs.declared.Job.{Job}
 use Rattle.model.specs.declared.Delay.{Delay}
 use Rattle.model.specs.declared.Batch.{Batch}
 use Rattle.model.specs.Common.{count}
-use Rattle.model.specs.Batch.{delayOf, delaysOf, ticks, jobOf, blankJob, blankDelay}
+use Rattle.model.specs.Batch.{delayOf, ticks, jobOf, blankJob, blankDelay}
 use Rattle.model.specs.Open.{jobsOk, weightOk}
 use Rattle.model.proofs.BoolLaws.{apart, both, passes, fails}
 use Rattle.model.proofs.SeqLaws.{getD-default}
 use Rattle.model.proofs.AllLaws.{allFrom, all-start, all-passed, all-failed, all-ended, all-both}
 use Rattle.model.proofs.LimitLaws.{weight-iff}
-use Rattle.delay_list.specs.Four.{fourOf, AtHand}
-use Rattle.delay_list.proofs.FourLaws.{none-at-hand, next-at-hand}
+use Rattle.delay_list.specs.declared.Columns.{Columns}
+use Rattle.delay_list.specs.Columns.{column, columnsOf, delayIn}
+use Rattle.delay_list.proofs.ColumnLaws.{delay-in, delays-in}
 use Rattle.starts.specs.Code.{Limited, coded}
 use Rattle.starts.specs.Rounds.{filled}
 use Rattle.starts.specs.Delays.{delaysPass, delaysRead, ReadsDelays, ticksRead}
-use Rattle.starts.proofs.FillLaws.{filled-none, filled-more}
+use Rattle.starts.proofs.FillLaws.{filled-none, filled-more, filled-cong}
 
 -- ---- delays
 
--- the test of delay k of a list, among n jobs
-unfoldable pub delayTest : ℕ → List Delay → ℕ → Bool
-delayTest n list k = jobsOk n (getD list k blankDelay) && weightOk (getD list k blankDelay)
+-- the test of delay k of the columns, among n jobs
+unfoldable pub delayTest : ℕ → Columns → ℕ → Bool
+delayTest n columns k = jobsOk n (delayIn columns k) && weightOk (delayIn columns k)
 
--- the delays below k have passed and are copied, those from k on decide
-pub record ReadTo (n : ℕ) (list : List Delay) (m : ℕ) (from to code : List ℕ) (four : List Delay) (k : ℕ) : Type 0 where
+-- the delays below k have passed and are coded, those from k on decide
+pub record ReadTo (n : ℕ) (columns : Columns) (m : ℕ) (code : List ℕ) (k : ℕ) : Type 0 where
   pub few : k ≤ m
-  pub left : allFrom (delayTest n list) k m ≡ allFrom (delayTest n list) 0 m
-  pub at-hand : AtHand list four k
-  pub froms : from ≡ filled (λ i. getD list i blankDelay .from) 128 k
-  pub tos : to ≡ filled (λ i. getD list i blankDelay .to) 128 k
-  pub codes : code ≡ filled (λ i. coded (getD list i blankDelay .weight)) 128 k
+  pub left : allFrom (delayTest n columns) k m ≡ allFrom (delayTest n columns) 0 m
+  pub codes : code ≡ filled (λ i. coded (delayIn columns i .weight)) 128 k
 
-pub read-none : (n : ℕ) (list : List Delay) (m : ℕ) (four : List Delay) → ReadTo n list m (replicate 128 0) (replicate 128 0) (replicate 128 0) four 0
-read-none n list m four =
-    record {
-      few = omega arith;
-      left = refl;
-      at-hand = none-at-hand list four;
-      froms = filled-none _ 128;
-      tos = filled-none _ 128;
-      codes = filled-none _ 128;
-    }
+pub read-none : (n : ℕ) (columns : Columns) (m : ℕ) → ReadTo n columns m (replicate 128 0) 0
+read-none n columns m = record { few = omega arith; left = refl; codes = filled-none _ 128 }
 
 pub weight-limited : (q : Delay) → weightOk q ≡ true → Limited (q .weight)
 weight-limited q e = let h = weight-iff q .0 e in record { low = h .0; high = h .1 }
 
+-- a delay that passes has a weight with a code
+pub read-limited : (n : ℕ) (q : Delay) (x : Bool) → x ≡ (jobsOk n q && weightOk q) → not x ≡ false → Limited (q .weight)
+read-limited n q x test e = weight-limited q (both (jobsOk n q) (weightOk q) (passes test e) .1)
+
 -- delay k is read as q, and tested: x is the answer
-module _ (n : ℕ) (list : List Delay) (m : ℕ) (from to code : List ℕ) (four : List Delay) (k : ℕ) (at : ReadTo n list m from to code four k) (h : k < m) (q : Delay) (x : Bool) (read : q ≡ getD list k blankDelay) (test : x ≡ (jobsOk n q && weightOk q)) where
-  tested : x ≡ delayTest n list k
+module _ (n : ℕ) (columns : Columns) (m : ℕ) (code : List ℕ) (k : ℕ) (at : ReadTo n columns m code k) (h : k < m) (q : Delay) (x : Bool) (read : q ≡ delayIn columns k) (test : x ≡ (jobsOk n q && weightOk q)) where
+  tested : x ≡ delayTest n columns k
   unfolding delayTest
-  tested = test ∙ ap (λ (p : Delay). jobsOk n p && weightOk p) read
+  tested = rw read at test
 
-  -- it passes, and its weight has a code
-  pub read-limited : not x ≡ false → Limited (q .weight)
-  read-limited e = weight-limited q (both (jobsOk n q) (weightOk q) (passes test e) .1)
-
-  -- it passes, and is copied
-  pub read-more : not x ≡ false → (next : List Delay) → next ≡ fourOf list k → (v : ℕ) → v ≡ coded (q .weight)
-      → ReadTo n list m (set from k (q .from)) (set to k (q .to)) (set code k v) next (k + 1)
-  read-more e next now v c =
+  -- it passes, and is coded
+  pub read-more : not x ≡ false → (v : ℕ) → v ≡ coded (q .weight) → ReadTo n columns m (set code k v) (k + 1)
+  read-more e v c =
       record {
         few = omega arith;
         left = all-passed _ k m _ (at .left) h (passes tested e);
-        at-hand = next-at-hand list next k now;
-        froms = filled-more _ 128 k _ from (at .froms) (ap (λ (p : Delay). p .from) read);
-        tos = filled-more _ 128 k _ to (at .tos) (ap (λ (p : Delay). p .to) read);
-        codes = filled-more _ 128 k _ code (at .codes) (c ∙ ap (λ (p : Delay). coded (p .weight)) read);
+        codes = filled-more _ 128 k _ code (at .codes) (rw read at c);
       }
 
   -- it fails, and so do the delays
-  pub read-failed : not x ≡ true → false ≡ allFrom (delayTest n list) 0 m
+  pub read-failed : not x ≡ true → false ≡ allFrom (delayTest n columns) 0 m
   read-failed e = all-failed _ k m _ (at .left) h (fails tested e)
 
--- what the loop has tested is what the definition asks
-pub delays-start : (b : Batch) (m : ℕ) → m ≡ b .m → allFrom (delayTest (b .n) (b .delays)) 0 m ≡ delaysPass b
-unfolding delaysPass delayTest delayOf delaysOf
-delays-start b m e = rw e (all-start (delayTest (b .n) (b .delays)) (b .m) ∙ all-both (jobsOk (b .n)) weightOk (delayOf b) (count 0 (b .m)))
+-- a column of numbers is the array that is filled with them
+column-filled : (part : Delay → ℕ) (list : List Delay) (m : ℕ) → column part 0 list m ≡ filled (λ i. part (getD list i blankDelay)) 128 m
+unfolding column filled
+column-filled part list zero = refl
+column-filled part list (suc m) = rw (column-filled part list m)
 
--- the loop has ended, or one delay has failed
-pub read-all : (b : Batch) (m : ℕ) (from to code : List ℕ) (four : List Delay) (k : ℕ) → m ≡ b .m → ReadTo (b .n) (b .delays) m from to code four k → m ≤ k
-    → ReadsDelays b (record { passed = true; delays = record { from = from; to = to; code = code } })
-unfolding delaysRead delayOf
-read-all b m from to code four k e at h =
-    let s : k ≡ b .m = omega (arith, at .few) in
-    record { told = all-ended _ k m _ (at .left) h ∙ delays-start b m e; ready = λ _. rw (at .froms, at .tos, at .codes, s) }
+-- the columns are those of the batch's delays
+module _ (b : Batch) (columns : Columns) (m : ℕ) (same : columns ≡ columnsOf (b .delays) m) (e : m ≡ b .m) (few : m ≤ 128) where
+  -- what the loop has tested is what the definition asks
+  delays-start : allFrom (delayTest (b .n) columns) 0 m ≡ delaysPass b
+  unfolding delaysPass delayTest
+  delays-start = rw (delays-in b columns m same e few) (all-start (delayTest (b .n) columns) m ∙ all-both (jobsOk (b .n)) weightOk (delayIn columns) (count 0 m))
 
-pub read-not : (b : Batch) (m : ℕ) (from to code : List ℕ) → m ≡ b .m → false ≡ allFrom (delayTest (b .n) (b .delays)) 0 m
-    → ReadsDelays b (record { passed = false; delays = record { from = from; to = to; code = code } })
-read-not b m from to code e f = record { told = f ∙ delays-start b m e; ready = λ z. apart z }
+  -- the loop has ended, or one delay has failed
+  pub read-all : (code : List ℕ) (k : ℕ) → ReadTo (b .n) columns m code k → m ≤ k
+      → ReadsDelays b (record { passed = true; delays = record { from = columns .from; to = columns .to; code = code } })
+  unfolding delaysRead delayOf columnsOf
+  read-all code k at h =
+      let s : k ≡ m = omega arith in
+      let c : code ≡ filled (λ i. coded (delayOf b i .weight)) 128 m = rw (at .codes, s, same) (filled-cong _ _ 128 m (λ i p. ap (λ (q : Delay). coded (q .weight)) (delay-in (b .delays) m i p few))) in
+      record { told = all-ended _ k m _ (at .left) h ∙ delays-start; ready = λ _. rw (c, same, column-filled (λ q. q .from) (b .delays) m, column-filled (λ q. q .to) (b .delays) m, e) }
+
+  pub read-not : (code : List ℕ) → false ≡ allFrom (delayTest (b .n) columns) 0 m
+      → ReadsDelays b (record { passed = false; delays = record { from = columns .from; to = columns .to; code = code } })
+  read-not code f = record { told = f ∙ delays-start; ready = λ z. apart z }
 
 -- ---- ticks
 

@@ -1,8 +1,8 @@
 // A batch's delays as plain parallel arrays, and its jobs' ticks: what a search copies out of the batch once.
-use delay_list::four_of;
+use delay_array::array_columns;
+use delay_list::delay_at;
 use limits::delay_ok;
 use model::Batch;
-use model::NO_DELAY;
 use model::wide;
 ghost use mathlib.Core.Path.{_≡_};
 ghost use Prim.Native.Nat.{_≤_};
@@ -31,30 +31,28 @@ pub struct Reading {
     pub delays: Delays,
 }
 
-// The first m delays, tested and copied in one pass.
+// The first m delays, tested and coded.
 pub fn read_delays(batch: Batch) -> Reading
     requires { ⌜ batch .m ≤ 128 ⌝ }
     ensures { λ r. ⌜ ReadsDelays batch r ⌝ }
 {
-    let mut from = [0u8; 128];
-    let mut to = [0u8; 128];
-    let mut code = [0u16; 128];
     let n = batch.n;
-    let list = batch.delays;
     let m = wide(batch.m);
-    let mut four = [NO_DELAY; 4];
+    let list = batch.delays;
+    let columns = array_columns(list, m);
+    let from = columns.from;
+    let to = columns.to;
+    let weight = columns.weight;
+    let mut code = [0u16; 128];
     let mut k: usize = 0;
     while k < m {
-        four = four_of(list, four, k);
-        let q = four[k % 4];
+        let q = delay_at(&from, &to, &weight, k);
         if !delay_ok(n, q) {
             return Reading {
                 passed: false,
                 delays: Delays { from, to, code },
             };
         }
-        from[k] = q.from;
-        to[k] = q.to;
         code[k] = code_of(q.weight);
         k = k + 1;
     }

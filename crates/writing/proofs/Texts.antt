@@ -4,6 +4,7 @@ use mathlib.Core.Path.{_≡_, refl, ap, sym, _∙_}
 use mathlib.Core.List.{List, [], _++_, append-assoc}
 use native.Mathlib.Omega.{arith}
 use lib.ListN.{length, getD, length-append}
+use Rattle.model.specs.declared.Delay.{Delay}
 use Rattle.model.specs.declared.Job.{Job}
 use Rattle.model.specs.declared.Batch.{Batch}
 use Rattle.model.specs.Common.{count, joined}
@@ -58,20 +59,13 @@ read-length b i = ap length (sym (read-line b i)) ∙ job-length (readJob b i)
 
 -- ---- delays
 
-abbrev pub delayPiece : Batch → ℕ → List ℕ
-delayPiece b k = delayLine (delayOf b k)
-
-pub delays-text : (b : Batch) → joined delayLine (delaysOf b) ≡ pieces (delayPiece b) (b .m)
-unfolding delaysOf
-delays-text b = joined-pieces delayLine (delayOf b) (b .m)
-
-pub delays-size : (b : Batch) (k : ℕ) → length (pieces (delayPiece b) k) ≡ 11 * k
-delays-size b k = pieces-even (delayPiece b) 11 (λ i. delay-length (delayOf b i)) k
+pub delays-size : (q : ℕ → Delay) (k : ℕ) → length (pieces (λ i. delayLine (q i)) k) ≡ 11 * k
+delays-size q k = pieces-even (λ i. delayLine (q i)) 11 (λ i. delay-length (q i)) k
 
 -- ---- the batch text
 
 pub batch-length : (b : Batch) → length (batchFile b) ≡ 9 + (length (joined jobLine (jobsOf b)) + 11 * b .m)
-unfolding batchFile
+unfolding batchFile delaysOf
 batch-length b =
     let head = headerLine (b .n) (b .m) in
     let jobs = joined jobLine (jobsOf b) in
@@ -81,8 +75,8 @@ batch-length b =
       length-append head (jobs ++ delays),
       length-append jobs delays,
       header-length (b .n) (b .m),
-      ap length (delays-text b),
-      delays-size b (b .m),
+      ap length (joined-pieces delayLine (delayOf b) (b .m)),
+      delays-size (delayOf b) (b .m),
     )
 
 -- three texts at the front, one behind the other, as three calls leave them

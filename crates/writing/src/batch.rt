@@ -13,10 +13,10 @@ ghost use Rattle.writing.specs.Bounded.{Bounded};
 use crate::frame::put_delay;
 use crate::frame::put_header;
 use crate::frame::put_pair;
-use delay_list::four_of;
+use delay_array::array_columns;
+use delay_list::delay_at;
 use model::Batch;
 use model::Job;
-use model::NO_DELAY;
 use model::wide;
 
 // The whole batch text at the buffer's front.
@@ -94,14 +94,16 @@ fn put_delays(buffer: &mut [u8], at: usize, batch: Batch) -> usize
     requires { ⌜ (batch .m ≤ mostDelays) × (at + 11 * batch .m ≤ length (now buffer)) ⌝ }
     ensures { λ r. ⌜ (r ≡ at + 11 * batch .m) × (now (buffer .exit) ≡ overwritten (now (buffer .entry)) at (joined delayLine (delaysOf batch))) ⌝ }
 {
-    let list = batch.delays;
     let m = wide(batch.m);
+    let list = batch.delays;
+    let columns = array_columns(list, m);
+    let from = columns.from;
+    let to = columns.to;
+    let weight = columns.weight;
     let mut next = at;
-    let mut four = [NO_DELAY; 4];
     let mut k: usize = 0;
     while k < m {
-        four = four_of(list, four, k);
-        next = put_delay(buffer, next, four[k % 4]);
+        next = put_delay(buffer, next, delay_at(&from, &to, &weight, k));
         k = k + 1;
     }
     next

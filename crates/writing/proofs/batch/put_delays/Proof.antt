@@ -1,93 +1,53 @@
--- Each turn of `put_delays` puts one delay line behind those before it.
+-- Each turn of `put_delays` puts the line of one more delay of the columns behind those before it, and the delays of the columns are the batch's.
 use Prim.Native.Nat.{_≤_, _-_}
 use mathlib.Core.Path.{ap, _∙_}
 use native.Mathlib.Omega.{arith}
 use borrow.Author.Needs.{needs}
-use lib.ListN.{length, getD}
-use Rattle.model.specs.declared.Delay.{Delay}
-use Rattle.model.specs.Batch.{blankDelay, delayOf}
+use Rattle.model.specs.Common.{joined}
 use Rattle.model.specs.Format.{delayLine}
-use Rattle.delay_list.specs.Four.{AtHand}
-use Rattle.delay_list.proofs.FourLaws.{none-at-hand, next-at-hand, among}
-use Rattle.lines.specs.Write.{overwritten}
-use Rattle.writing.proofs.Pieces.{Filled, filled-none, filled-more, filled-all}
+use Rattle.delay_list.specs.Columns.{delayIn}
+use Rattle.delay_list.proofs.ColumnLaws.{delays-in}
+use Rattle.writing.proofs.Pieces.{joined-pieces, Filled, filled-none, filled-more, filled-all}
 use Rattle.writing.proofs.Lengths.{delay-length}
-use Rattle.writing.proofs.Texts.{delays-text, delays-size}
+use Rattle.writing.proofs.Texts.{delays-size}
 use Rattle.writing.proofs.batch.put_delays.Statement.{statement}
 use Rattle.writing.proofs.batch.put_delays.Tie as tie
 
 abbrev Inv-loop : tie.InvT-loop
-Inv-loop buffer₀ at list m next₀ four₀ k₀ buffer next four k = (k ≤ m) × (AtHand list four k × Filled (λ i. delayLine (getD list i blankDelay)) buffer₀ at k next buffer)
+Inv-loop buffer₀ at m from to weight next₀ k₀ buffer next k = (k ≤ m) × Filled (λ i. delayLine (delayIn (record { from = from; to = to; weight = weight }) i)) buffer₀ at k next buffer
 
 abbrev μ-loop : tie.MeasureT-loop
-μ-loop buffer₀ at list m next₀ four₀ k₀ buffer next four k = m - k
-
-wide-requires : tie.Need-wide-requires Inv-loop μ-loop
-wide-requires c κs = search needs
-
-loop-holds : tie.Need-loop-holds Inv-loop μ-loop
-loop-holds c = (search needs, (none-at-hand _ _, filled-none _ _ _))
-
-four-of-requires : tie.Need-four-of-requires Inv-loop μ-loop
-four-of-requires c κs = (search needs, c .before .loop .inv .1 .0)
-
-mul-put-delay : tie.Need-mul-put-delay Inv-loop μ-loop
-mul-put-delay c = search needs
-
-array-copy-out-put-delay : tie.Need-array-copy-out-put-delay Inv-loop μ-loop
-array-copy-out-put-delay c = search needs
-
-put-delay-requires : tie.Need-put-delay-requires Inv-loop μ-loop
-unfolding delayOf
-put-delay-requires c κs = omega (arith, delays-size (c .before .before .before .before .before .before .before .before .args .batch) (c .before .before .before .before .loop .k))
-
-add-k : tie.Need-add-k Inv-loop μ-loop
-add-k c = search needs
-
-loop-less : tie.Need-loop-less Inv-loop μ-loop
-loop-less c = search needs
-
-loop-again : tie.Need-loop-again Inv-loop μ-loop
-unfolding delayOf
-loop-again c =
-    let batch = c .before .before .before .before .before .before .before .before .before .before .before .args .batch in
-    let put = c .before .before .put-delay .ensures in
-    let four = c .before .before .before .before .before .four-of .ensures in
-    let turn = c .before .before .before .before .before .before .before .loop in (
-      search needs,
-      (
-        next-at-hand _ _ _ four,
-        filled-more _ _ _ (batch .m) (omega (arith, delays-size batch (batch .m))) (turn .inv .1 .1) (omega arith)
-            (delay-length _)
-            (put .0)
-            (put .1 ∙ ap (λ (q : Delay). overwritten (turn .buffer) (turn .next) (delayLine q)) (among _ _ _ four _)),
-      ),
-    )
-
-same-length : tie.Need-same-length Inv-loop μ-loop
-same-length c = c .before .loop .inv .1 .1 .same-length
-
-returns : tie.Need-returns Inv-loop μ-loop
-unfolding delayOf
-returns c =
-    let batch = c .before .before .before .before .before .args .batch in
-    let all = filled-all _ _ _ (batch .m) _ (c .before .loop .inv .1 .1) (omega arith) (delays-text batch) in
-    (omega (arith, all .0, delays-size batch (batch .m), ap length (delays-text batch)), all .1)
+μ-loop buffer₀ at m from to weight next₀ k₀ buffer next k = m - k
 
 pub put-delays-spec : {M : Type 1} → statement M
 put-delays-spec =
     tie.close
-    (tie.spec
-    Inv-loop
-    μ-loop
-    wide-requires
-    loop-holds
-    four-of-requires
-    mul-put-delay
-    array-copy-out-put-delay
-    put-delay-requires
-    add-k
-    loop-less
-    loop-again
-    same-length
-    returns)
+    (tie.spec Inv-loop μ-loop
+    (λ c κs. search needs)
+    (λ c κs. search needs)
+    (λ c. (search needs, filled-none _ _ _))
+    (λ c κs. search needs)
+    -- there is room for a line
+    (λ c κs.
+    let turn = c .before .before .before .before .before .before in
+    omega (arith, delays-size (delayIn (turn .before .before .before .before .array-columns .result)) (turn .loop .k)))
+    (λ c. search needs)
+    (λ c. search needs)
+    -- one line more
+    (λ c.
+    let put = c .before .before in
+    let turn = put .before .before .before .before .before .before in
+    let made = turn .before .before .before .before .before in
+    let m = made .before .before .wide .result in
+    let more = turn .loop-test .taken in (
+      omega arith,
+      filled-more _ _ _ m (omega (arith, delays-size (delayIn (made .array-columns .result)) m)) (turn .before .loop .inv .1) more (delay-length _) (put .put-delay .ensures .0) (rw (put .before .delay-at .ensures) at (put .put-delay .ensures .1)),
+    ))
+    (λ c. c .before .loop .inv .1 .same-length)
+    -- all of them
+    (λ c.
+    let last = c .before .loop in
+    let made = c .before .before .before .before .before in
+    let columns = made .array-columns .result in
+    let delays = delays-in _ columns _ (made .array-columns .ensures) (made .before .before .wide .ensures .0) (omega arith) in
+    (omega (arith, delays-size (delayIn columns) (last .k)), filled-all _ _ _ _ _ (last .inv .1) (omega arith) (ap (joined delayLine) delays ∙ joined-pieces delayLine (delayIn columns) _) .1)))
