@@ -68,5 +68,6 @@ void check_refusals(void);
 void check_limits(void);
 void check_texts(void);
 void check_threads(void);
+void check_stack(void);
 
 #endif

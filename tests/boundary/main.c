@@ -11,5 +11,6 @@ int main(void) {
     check_limits();
     check_texts();
     check_threads();
+    check_stack();
     return counted();
 }
