@@ -1,4 +1,5 @@
-/* The C boundary: version, sizes, offsets and constants of include/planner.h are those of the library. Linked with libplanner_c.a.
+/* The C boundary: version, sizes, offsets and constants of include/planner.h are those of the library, and its word on the stack is true. Linked with
+ * libplanner_c.a.
  * The library cannot tell its layout, so the checks find it by what the calls do. Last line: 'N passed, M failed'. */
 #include "check.h"
 

@@ -43,7 +43,7 @@ static int search(uint32_t budget) {
            written(planner_write_batch(&record, batch, sizeof batch), batch, TASKS);
 }
 
-/* A chain of 24 jobs, each 10 ticks after the one before: every round raises one start more, so that the rounds go as deep as they can. */
+/* A chain of 24 jobs, each 10 ticks after the one before: every round but the last raises a start, and there are 24. */
 static int chain(const char *file) {
     planner_record record;
     uint16_t starts[PLANNER_JOBS];
@@ -83,7 +83,7 @@ void check_threads(void) {
     pthread_attr_t little;
     work all[THREADS];
     int k;
-    begin("four threads of 80 KB of stack with 201 searches each, one as deep as rounds go");
+    begin("four threads of 80 KB of stack with 201 searches each, one of 24 rounds");
     write_chain();
     same(pthread_attr_init(&little), 0);
     same(pthread_attr_setstacksize(&little, STACK), 0);

@@ -4,7 +4,7 @@ use model::Delay;
 ghost use mathlib.Core.Path.{_≡_};
 ghost use Prim.Native.Nat.{_≤_, _<_};
 ghost use lib.ListN.{length, set};
-ghost use Rattle.delay_list.specs.Columns.{columnsOf, delayIn};
+ghost use Rattle.delay_list.specs.Columns.{columnsOf, delayAt};
 
 // Place k of each column is a part of delay k. The places past the last delay are 0.
 pub struct Columns {
@@ -27,7 +27,7 @@ fn store(q: Delay, k: usize, from: &mut [u8; 128], to: &mut [u8; 128], weight: &
 // The columns of a list.
 pub fn list_columns(list: &[Delay]) -> Columns
     requires { ⌜ length (now list) ≤ 128 ⌝ }
-    ensures { λ r. ⌜ r ≡ columnsOf (now (list .entry)) (length (now (list .entry))) ⌝ }
+    ensures { λ r. ⌜ r ≡ columnsOf (now (list .entry)) ⌝ }
 {
     let mut from = [0u8; 128];
     let mut to = [0u8; 128];
@@ -43,7 +43,7 @@ pub fn list_columns(list: &[Delay]) -> Columns
 // Delay k of a list, read out of its columns.
 pub fn delay_at(from: &[u8; 128], to: &[u8; 128], weight: &[i16; 128], k: usize) -> Delay
     requires { ⌜ k < 128 ⌝ }
-    ensures { λ r. ⌜ r ≡ delayIn (record { from = now (from .entry); to = now (to .entry); weight = now (weight .entry) }) k ⌝ }
+    ensures { λ r. ⌜ r ≡ delayAt (record { from = now (from .entry); to = now (to .entry); weight = now (weight .entry) }) k ⌝ }
 {
     let w = weight[k];
     Delay {

@@ -48,18 +48,19 @@ filled-cong f g size (suc k) h = rw (filled-cong f g size k (λ i p. h i (omega 
 
 -- ---- as a list
 
--- a filled array is the list of its values, padded
+-- a padded list is the array that is filled with its numbers
+pub pad-filled : (l : List ℕ) (size k : ℕ) → length l ≤ k → k ≤ size → pad size 0 l ≡ filled (λ i. getD l i 0) size k
+pad-filled l size k g h =
+    ext-getD 0 (pad size 0 l) (filled (λ i. getD l i 0) size k) (pad-length size 0 l (omega arith) ∙ sym (filled-length _ size k)) (λ i p. pad-at size 0 l i ∙ sym (go i (decLt i k)))
+  where
+    go : (i : ℕ) → Dec (i < k) → getD (filled (λ i. getD l i 0) size k) i 0 ≡ getD l i 0
+    go i (yes p) = filled-at _ size k i h p
+    go i (no p) = filled-past _ size k i (omega arith) ∙ sym (List·getD-eq-default l 0 (omega arith))
+
+-- so a filled array is the list of its values, padded
 pub filled-is : (f : ℕ → ℕ) (size k : ℕ) → k ≤ size → filled f size k ≡ pad size 0 (map f (count 0 k))
 filled-is f size k h =
-    let e : length (map f (count 0 k)) ≡ k = listed-length f k in
-    ext-getD 0 (filled f size k) (pad size 0 (map f (count 0 k)))
-    (filled-length f size k ∙ sym (pad-length size 0 (map f (count 0 k)) (omega arith)))
-    (λ i p. go i (decLt i k) e)
-  where
-    go : (i : ℕ) → Dec (i < k) → length (map f (count 0 k)) ≡ k → getD (filled f size k) i 0 ≡ getD (pad size 0 (map f (count 0 k))) i 0
-    go i (yes p) e = filled-at f size k i h p ∙ sym (pad-at size 0 (map f (count 0 k)) i ∙ listed-at f 0 k i p)
-    go i (no p) e =
-        filled-past f size k i (omega arith) ∙ sym (pad-at size 0 (map f (count 0 k)) i ∙ List·getD-eq-default (map f (count 0 k)) 0 (omega arith))
+    filled-cong f _ size k (λ i p. sym (listed-at f 0 k i p)) ∙ sym (pad-filled (map f (count 0 k)) size k (omega (arith, listed-length f k)) h)
 
 -- where f is 0 past k, filling all places is filling k
 pub filled-rest : (f : ℕ → ℕ) (size k : ℕ) → k ≤ size → ((i : ℕ) → k ≤ i → f i ≡ 0) → filled f size size ≡ filled f size k

@@ -38,8 +38,8 @@ pub fn read_delays(batch: Batch) -> Reading
 {
     let n = batch.n;
     let m = wide(batch.m);
-    let list = batch.delays;
-    let columns = array_columns(list, m);
+    let delays = batch.delays;
+    let columns = array_columns(delays, m);
     let from = columns.from;
     let to = columns.to;
     let weight = columns.weight;

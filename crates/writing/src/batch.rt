@@ -95,8 +95,8 @@ fn put_delays(buffer: &mut [u8], at: usize, batch: Batch) -> usize
     ensures { λ r. ⌜ (r ≡ at + 11 * batch .m) × (now (buffer .exit) ≡ overwritten (now (buffer .entry)) at (joined delayLine (delaysOf batch))) ⌝ }
 {
     let m = wide(batch.m);
-    let list = batch.delays;
-    let columns = array_columns(list, m);
+    let delays = batch.delays;
+    let columns = array_columns(delays, m);
     let from = columns.from;
     let to = columns.to;
     let weight = columns.weight;

@@ -1,6 +1,6 @@
 -- `delay_array::array_columns` meets its contract: a walk of its MIR, by hand. The front of the array is lent as a list for a lifetime that the walk makes, and
 -- `delay_list::list_columns` is called.
-use mathlib.Core.Path.{_≡_, refl, sym, ap, subst, _∙_}
+use mathlib.Core.Path.{_≡_, refl, sym, ap, subst}
 use Prim.Native.Nat.{ℕ, _≤_, _<_, _^_}
 use native.Mathlib.Omega.{arith}
 use mathlib.Core.List.{List, [], _∷_}
@@ -54,7 +54,6 @@ use Rattle.model.proofs.Delay as T
 use Rattle.model.proofs.Delay.Laws as T′
 use Rattle.delay_list.specs.declared.Columns.{Columns}
 use Rattle.delay_list.specs.Columns.{columnsOf}
-use Rattle.delay_list.proofs.ColumnLaws.{columns-front}
 use Rattle.delay_list.proofs.Columns as C
 use Rattle.delay_list.proofs.Columns.Laws as C′
 use Rattle.delay_list.proofs.list_columns as callee
@@ -102,7 +101,7 @@ module _ {M : Type 1} (𝓤 : URA M) (H : Heap 𝓤) (A : Atoms 𝓤) (W : Given
     Post = walkOf 𝓤 H A f.ended stayed (f.clauses 𝓤 H A mem run) .post bound
 
     -- the contract holds of what is owned at exit
-    exits : Is R ds mach → (v : Val) (r : Columns) → Is C.the-row r (v ∷ []) → r ≡ columnsOf ds m → ent 𝓤 (⋆ 𝓤 H A []) (Post v)
+    exits : Is R ds mach → (v : Val) (r : Columns) → Is C.the-row r (v ∷ []) → r ≡ columnsOf (take m ds) → ent 𝓤 (⋆ 𝓤 H A []) (Post v)
     exits g v r is e =
         qed W [] ∵ suffices ! _ (ends-at 𝓤 H A f.ended stayed (f.clauses 𝓤 H A mem run) W bound v r (tt, (tt, tt)) (tt, (tt, tt))) $ says ! e $ owned ! C.the-row (Is C.the-row) (LL.makes C.the-type C′.the-plain 𝓤 H A) r _ is $
         nothing ! $ owned ! usize (Is usize) (uint-makes 𝓤 H A W w64) m _ (refl, m-fits) $ fjoin ! $ owned ! R (Is R) (array-makes 𝓤 H A W T.the-row (LL.makes T.the-type T′.the-plain 𝓤 H A) 128) ds _ g $ fjoin ! $ nothing ! $ done !
@@ -113,10 +112,6 @@ module _ {M : Type 1} (𝓤 : URA M) (H : Heap 𝓤) (A : Atoms 𝓤) (W : Given
 
     front : length (take m ds) ≡ m
     front = length-take-le m ds (omega (arith, len))
-
-    -- the columns of the front are those of the array
-    fronted : (r : Columns) → r ≡ columnsOf (take m ds) (length (take m ds)) → r ≡ columnsOf ds m
-    fronted r e = e ∙ ap (columnsOf (take m ds)) front ∙ columns-front ds m
 
     halved : Halved 𝓤 H A T.the-row
     halved ys b o = slice-halves 𝓤 H A W T.the-row (Is T.the-row) (shows 𝓤 H A T.the-row) (LL.vals T.the-type T′.the-laws) (LL.tells T.the-type T′.the-laws) (LL.copy T.the-type T′.the-copy 𝓤 H A W) (length ys) ys b o
@@ -140,12 +135,9 @@ module _ {M : Type 1} (𝓤 : URA M) (H : Heap 𝓤) (A : Atoms 𝓤) (W : Given
       goes : ent 𝓤 (onEntry 𝓤 H A callee.signature (y .0 .0) (y .0 .1) (y .0 .3) (y .0 .4)) (Listed .pre y)
       goes = qed W (tokens ∷ ‵ (owns (ShrSlice (named 0) (α ∷ []) T.the-row ∷ []) (y .0 .3) (y .0 .4)) ∷ []) ∵ says ! (omega (arith, front)) $ done !
 
-      -- what it gives, and what it ensures of the result
-      abbrev Listed-is : Columns → Type 0
-      Listed-is r = r ≡ columnsOf (take m ds) (length (take m ds))
-
+      -- what it gives
       abbrev given-back : Val → Item 𝓤
-      given-back v = later (some (λ (r : Columns). (tokens ⊛ ‵ (C.the-row .own r (v ∷ []))) ⊛ some (λ (zs : Lasts callee.ended (y .0 .0) (y .0 .3)). ‵ (lasts callee.ended (y .0 .0) (y .0 .3) zs) ⊛ raw (fact 𝓤 (Listed-is r)))))
+      given-back v = later (some (λ (r : Columns). (tokens ⊛ ‵ (C.the-row .own r (v ∷ []))) ⊛ some (λ (zs : Lasts callee.ended (y .0 .0) (y .0 .3)). ‵ (lasts callee.ended (y .0 .0) (y .0 .3) zs) ⊛ raw (fact 𝓤 (r ≡ columnsOf (take m ds))))))
 
     module _ (𝓣 : Tables 𝓤 H) (fm : FmC 𝓤 H (W .laws) (𝓣 .C)) (known : Triple 𝓤 (𝓣 .C #delay-list·list-columns) Listed) where
       -- the statements in turn
@@ -166,13 +158,13 @@ module _ {M : Type 1} (𝓤 : URA M) (H : Heap 𝓤) (A : Atoms 𝓤) (W : Given
           -- the call
           nothing ! $ move ! (1 ∷ 0 ∷ []) $ fjoin ! $ nothing ! $ move ! (2 ∷ 0 ∷ []) $ join ! $ use2 W (raw (Listed .pre (y l₃ α δ))) (goes l₃ α δ) $
           calls-at ! fm Listed known (y l₃ α δ) (and-then ! (load ! (from ! (stop !)) (look ! 3 refl)) (no-more !)) (λ v.
-          use1 W (given-back l₃ α δ v) (id⊢ 𝓤 _) $ await ! tt $ pick ! (λ r. split ! $ move ! (1 ∷ []) $ pick ! (λ zs. split ! $ move ! (1 ∷ []) $ heard ! (Listed-is l₃ α δ r) (λ e.
+          use1 W (given-back l₃ α δ v) (id⊢ 𝓤 _) $ await ! tt $ pick ! (λ r. split ! $ move ! (1 ∷ []) $ pick ! (λ zs. split ! $ move ! (1 ∷ []) $ heard ! (r ≡ columnsOf (take m ds)) (λ e.
           move ! (1 ∷ []) $ split ! $ move ! (1 ∷ []) $ facts ! C.the-row (Is C.the-row) (shows 𝓤 H A C.the-row) r (v ∷ []) (λ is. land ! (from ! (stop !)) (init ! 13 refl (LL.lawful C.the-type C′.the-laws 𝓤 H A W .typed r _ is .0)) $ split ! $
           -- the lifetime is ended, and the local is whole again
           lft-end ! tt $ move ! (0 ∷ 3 ∷ []) $ lent-back ! tt $ rewrite ! 0 (λ (n : ℕ). ‵ (all l₃ n)) len refl $ use1 W (‵ (partAt R fullShare ds l₃ 0)) (array-whole 𝓤 H A W T.the-row fullShare 128 ds l₃ 0) $
           use1 W (some (λ (u : Val). ‵ (fat fullShare (lone (R .mir)) l₃ 0 u) ⊛ ‵ (R .own ds (u ∷ [])))) (part-out 𝓤 H A W R refl fullShare ds l₃ 0) $ pick ! (λ u. split ! $
           returns ! (look ! 14 refl) $ forget ! 14 refl $ forget ! 12 refl $ forget ! 10 refl $ forget ! 0 refl $ forget ! 7 refl $ forget ! 5 refl $
-          move ! (14 ∷ 15 ∷ []) $ free1 ! $ move ! (12 ∷ 13 ∷ []) $ free1 ! $ move ! (10 ∷ 11 ∷ []) $ free1 ! $ move ! (0 ∷ 9 ∷ []) $ free1 ! $ move ! (6 ∷ 7 ∷ []) $ free1 ! $ move ! (4 ∷ 5 ∷ []) $ free1 ! $ free0 ! $ keep ! [] $ by ! (exits g v r is (fronted r e)))))))))))))))))
+          move ! (14 ∷ 15 ∷ []) $ free1 ! $ move ! (12 ∷ 13 ∷ []) $ free1 ! $ move ! (10 ∷ 11 ∷ []) $ free1 ! $ move ! (0 ∷ 9 ∷ []) $ free1 ! $ move ! (6 ∷ 7 ∷ []) $ free1 ! $ move ! (4 ∷ 5 ∷ []) $ free1 ! $ free0 ! $ keep ! [] $ by ! (exits g v r is e))))))))))))))))
         where
           wt : Holds (hasTy (lone (R .mir)) mach₁) × WT mach₁
           wt = array-lawful 𝓤 H A W T.the-row (LL.lawful T.the-type T′.the-laws 𝓤 H A W) 128 .typed ds mach g .0
