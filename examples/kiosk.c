@@ -37,6 +37,9 @@ static const char *const words[] = {
     "the search has not ended, and total + budget is above 100,000,000",
     "a plan text is wanted of a search that has not ended",
     "the text is longer than the buffer",
+    "the plan text is not one B0 line with 01 and then only B1 lines, each of its length",
+    "the plan text's n is not the batch's, or its job lines are not jobs 0 to n - 1 in order",
+    "the plan is not valid, or its latency is wrong",
 };
 
 static double now(void) {

@@ -4,7 +4,8 @@
  * answer is a plan or no plan; then the plan is written as text. The search lives in a planner_record that the
  * caller owns and keeps between the calls. A caller that stops before the end, or meets PLANNER_REFUSAL_TOTAL, has
  * the best plan found so far in the record: found, latency and starts. It is valid and perhaps not the shortest,
- * and its text cannot be written.
+ * and its text cannot be written. A plan text, wherever it comes from, is judged beside its batch file; that needs
+ * no record.
  *
  * For every call:
  * - No pointer may be null, also where the length that goes with it is 0. Each is aligned for its type and valid
@@ -33,12 +34,12 @@ extern "C" {
 
 /* It rises whenever the record's layout, a number's meaning or a call changes. A program compiled with this header
  * links only with an archive of the same version: with gcc and clang every file that includes the header refers to
- * planner_version_1, a name that no archive of another version has. With another compiler, or with --gc-sections
- * and a gcc before 11 or a clang before 13, call planner_version_1() somewhere in the program; it answers
+ * planner_version_2, a name that no archive of another version has. With another compiler, or with --gc-sections
+ * and a gcc before 11 or a clang before 13, call planner_version_2() somewhere in the program; it answers
  * PLANNER_VERSION.
  */
-#define PLANNER_VERSION 1
-uint32_t planner_version_1(void);
+#define PLANNER_VERSION 2
+uint32_t planner_version_2(void);
 
 #if defined(__GNUC__)
 #pragma GCC diagnostic push
@@ -48,7 +49,7 @@ uint32_t planner_version_1(void);
 __attribute__((__retain__)) /* --gc-sections keeps it */
 #endif
 #endif
-__attribute__((__used__)) static uint32_t (*const planner_linked)(void) = planner_version_1;
+__attribute__((__used__)) static uint32_t (*const planner_linked)(void) = planner_version_2;
 #pragma GCC diagnostic pop
 #endif
 
@@ -144,8 +145,8 @@ typedef struct planner_text {
 
 /* ---- the refusals: where several conditions hold, a call gives the first in the order that it asks them */
 
-/* These are values of `refusal`, the first ten also what planner_open answers; PLANNER_REFUSED, above, is a value
- * of `kind`.
+/* 1 to 10 are answers of planner_open, 11 to 16 values of `refusal`, 1 to 10 and 17 to 19 answers of planner_judge;
+ * PLANNER_REFUSED, above, is a value of `kind`.
  */
 #define PLANNER_REFUSAL_LINE 1       /* a line without 0A, without digits, with an odd count, or with another byte than 0-9 and A-F */
 #define PLANNER_REFUSAL_FRAME 2      /* the first byte is not the kind due, or the length is wrong */
@@ -163,6 +164,9 @@ typedef struct planner_text {
 #define PLANNER_REFUSAL_TOTAL 14     /* the search has not ended, and total + budget is above 100,000,000 */
 #define PLANNER_REFUSAL_UNENDED 15   /* a plan text is wanted of a search that has not ended */
 #define PLANNER_REFUSAL_BUFFER 16    /* the text is longer than the buffer */
+#define PLANNER_REFUSAL_FORM 17      /* the plan text is not one B0 line with 01 and then only B1 lines, each of its length */
+#define PLANNER_REFUSAL_JOBS 18      /* the plan text's n is not the batch's, or its job lines are not jobs 0 to n - 1 in order */
+#define PLANNER_REFUSAL_INVALID 19   /* the plan is not valid, or its latency is wrong */
 
 /* ---- the calls */
 
@@ -196,6 +200,16 @@ planner_text planner_write_plan(const planner_record *record, uint8_t *buffer, s
  * Refused, asked in this order: PLANNER_REFUSAL_RECORD, _BUFFER. The buffer is then left as it was.
  */
 planner_text planner_write_batch(const planner_record *record, uint8_t *buffer, size_t capacity);
+
+/* Judges a plan text of `text_length` bytes with the batch file that it is for, of `file_length` bytes.
+ * Answers 0: the file opens, the text is in form, its starts are a valid plan of the file's batch, and its latency is
+ * theirs. Starts may be up to 65535; neither the total nor whether the plan is the shortest is judged.
+ * Answers 1 to 10: the file is refused, as by planner_open.
+ * Answers 17 to 19: the text is refused. Asked in this order, after the file: PLANNER_REFUSAL_FORM, of the whole text,
+ * _JOBS, _INVALID.
+ * Neither is written to; they may overlap or be the same memory.
+ */
+uint8_t planner_judge(const uint8_t *file, size_t file_length, const uint8_t *text, size_t text_length);
 
 #ifdef __cplusplus
 }

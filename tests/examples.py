@@ -47,7 +47,7 @@ def main():
         elif row and not row.startswith("#"):
             note("rows", row, "a row of one of the forms", "", False)
     for name, pairs in blocks:
-        hexed = [re.sub(r"\[(.*)\]", lambda x: file_bytes(x[1]).hex().upper(), call) for call, _ in pairs]
+        hexed = [re.sub(r"\[(.*?)\]", lambda x: file_bytes(x[1]).hex().upper(), call) for call, _ in pairs]
         text = "".join(call + "\n" for call in hexed)
         got = output([calls], text.encode()).decode("latin-1").split("\n")
         due = [answer for _, answer in pairs]

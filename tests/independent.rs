@@ -1,6 +1,7 @@
-// The planner of document 01 once more, written from its text alone, to compare with.
+// The planner of document 01 and the judge of document 02 once more, written from their text alone, to compare with.
 // `independent plan` behaves as the program `plan`, `independent calls` as the check program. `independent clauses`
 // takes the same calls and answers an R, P or B with its letter and the clauses of soundness that its record breaks.
+use std::collections::HashSet;
 use std::io::{BufRead, Read, Write};
 
 const EMPTY: (u64, u64) = (65535, 0);
@@ -340,6 +341,65 @@ fn batch_text(r: &Record) -> Result<String, u64> {
     Ok(text)
 }
 
+// ---- judging a plan text
+
+/// The numbers of a plan text, whatever they are.
+struct PlanText {
+    n: u64,
+    latency: u64,
+    jobs: Vec<u64>,   // that the job lines name
+    starts: Vec<u64>, // that they give them
+}
+
+fn number_of(bytes: &[u8]) -> u64 {
+    bytes.iter().fold(0, |number, byte| number * 256 + *byte as u64)
+}
+
+/// Reads a text of one B0 line with 01 and then only B1 lines, each of its length; none for any other text.
+fn plan_lines(mut text: &[u8]) -> Option<PlanText> {
+    let head = next_line(&mut text).ok()?;
+    if head[0] != 0xB0 || head.len() != 9 || head[1] != 1 {
+        return None;
+    }
+    let (n, latency) = (number_of(&head[2..3]), number_of(&head[3..5]));
+    let mut plan = PlanText { n, latency, jobs: vec![], starts: vec![] };
+    while !text.is_empty() {
+        let line = next_line(&mut text).ok()?;
+        if line[0] != 0xB1 || line.len() != 4 {
+            return None;
+        }
+        plan.jobs.push(number_of(&line[1..2]));
+        plan.starts.push(number_of(&line[2..4]));
+    }
+    Some(plan)
+}
+
+/// What a job that starts in this tick holds: every tick with every station.
+fn held(r: &Record, job: usize, start: u64) -> Vec<(u64, u64)> {
+    let mut list = Vec::new();
+    for tick in 0..r.ticks[job] {
+        let stations = (0..16).filter(|station| r.masks[job][tick] >> station & 1 == 1);
+        list.extend(stations.map(|station| (start + tick as u64, station)));
+    }
+    list
+}
+
+/// Every delay is kept, and no station is held twice in a tick.
+fn valid(r: &Record, starts: &[u64]) -> bool {
+    let kept = |&(i, j, w): &Inequality| starts[j] as i64 - starts[i] as i64 >= w;
+    let all: Vec<(u64, u64)> = (0..r.n).flat_map(|job| held(r, job, starts[job])).collect();
+    let different: HashSet<&(u64, u64)> = all.iter().collect();
+    r.delays[..r.m].iter().all(kept) && different.len() == all.len()
+}
+
+fn judge(file: &[u8], text: &[u8]) -> Result<(), u64> {
+    let r = open(file)?;
+    let plan = plan_lines(text).ok_or(17u64)?;
+    refuse(18, plan.n != r.n as u64 || !plan.jobs.iter().copied().eq(0..r.n as u64))?;
+    let latency = (0..r.n).map(|job| plan.starts[job] + r.ticks[job] as u64).max().unwrap();
+    refuse(19, !valid(&r, &plan.starts) || plan.latency != latency)
+}
+
 // ---- the program `plan`
 
 fn plan(file: &[u8]) -> String {
@@ -439,8 +499,20 @@ fn number(word: &str) -> Option<u64> {
     word.parse().ok().filter(|value| digits && *value <= 4_294_967_295)
 }
 
+/// The answer to a J line with these two words.
+fn judged(line: &str, file: &str, text: &str) -> Option<String> {
+    let (file, text) = (hex(file.as_bytes())?, hex(text.as_bytes())?);
+    if line.len() > 131_079 || file.len() > 65_536 || text.len() > 65_536 {
+        return None;
+    }
+    Some(format!("J {}", judge(&file, &text).err().unwrap_or(0)))
+}
+
 fn call(r: &mut Record, line: &str) -> Option<String> {
     let words: Vec<&str> = line.split(' ').collect();
+    if let ["J", file, text] = words[..] {
+        return judged(line, file, text);
+    }
     if words[0] == "O" && words.len() <= 2 {
         let file = hex(words.get(1).unwrap_or(&"").as_bytes())?;
         let opened = open(&file);

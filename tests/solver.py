@@ -7,29 +7,10 @@ import sys
 from collections import Counter
 
 from batches import apart, batch, clash_count, joined, lines, output, words_of
+from plans import faults, read_file
 
 BATCHES = 420
 MOST_CLASHES = 40
-
-
-def read_file(data):
-    """Jobs and delays of a batch file, read here once more from its bytes."""
-    frames = [bytes.fromhex(line) for line in data.decode().splitlines()]
-    n = frames[0][2]
-    jobs = [[int.from_bytes(f[k:k + 2], "big") for k in range(2, len(f), 2)] for f in frames[1:1 + n]]
-    delays = [(f[1], f[2], int.from_bytes(f[3:5], "big", signed=True)) for f in frames[1 + n:]]
-    return jobs, delays
-
-
-def faults(jobs, delays, starts, latency):
-    """What is wrong with a plan: delays, stations tick by tick, latency."""
-    found = ["delay %d %d %d" % d for d in delays if starts[d[1]] - starts[d[0]] < d[2]]
-    held = Counter((starts[i] + a, s) for i, masks in enumerate(jobs)
-                   for a, mask in enumerate(masks) for s in range(16) if mask >> s & 1)
-    found += ["tick %d station %d" % key for key, times in held.items() if times > 1]
-    if latency != max(start + len(masks) for start, masks in zip(starts, jobs)):
-        found.append("latency")
-    return found
 
 
 def read_answer(text, n):

@@ -4,6 +4,7 @@
 #include <string.h>
 
 const char *const C3 = "A0010200\nA1010001\nA103000100020002\n";
+const char *const C3_PLAN = "B00102000300000003\nB1000001\nB1010000\n";
 const char *const C5 = "A0010202\nA1010001\nA1010001\nA200010000\nA201000000\n";
 
 static const char *present;

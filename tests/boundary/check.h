@@ -55,8 +55,10 @@ planner_answer run(planner_record *record, uint32_t budget);
 /* Compares an answer's four values. */
 void same_answer(planner_answer got, int kind, int refusal, long latency, long total);
 
-/* The document's batch C3, whose plan of latency 3 starts at 1 and 0 and takes 3 nodes, and C5, which has no plan and takes 3 nodes. */
+/* The document's batch C3, whose plan of latency 3 starts at 1 and 0 and takes 3 nodes, that plan as it is printed, and C5, which has no plan and
+ * takes 3 nodes. */
 extern const char *const C3;
+extern const char *const C3_PLAN;
 extern const char *const C5;
 
 /* The groups. */
@@ -67,6 +69,7 @@ void check_answers(void);
 void check_refusals(void);
 void check_limits(void);
 void check_texts(void);
+void check_judge(void);
 void check_threads(void);
 void check_stack(void);
 

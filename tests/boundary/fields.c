@@ -2,7 +2,7 @@
 #include "check.h"
 #include <string.h>
 
-/* Of a record that is not sound every call but opening is refused with 12 and leaves the record as it is. */
+/* Of a record that is not sound every call that reads one is refused with 12 and leaves the record as it is. */
 static void same_unsound(const planner_record *record) {
     planner_record copy;
     uint8_t buffer[PLANNER_BATCH_TEXT];

@@ -11,6 +11,7 @@ int main(void) {
     check_refusals();
     check_limits();
     check_texts();
+    check_judge();
     check_threads();
     check_stack();
     return counted();

@@ -1,4 +1,4 @@
-/* Each refusal 1 to 16 provoked once and compared with its name, and what a refused call leaves. */
+/* Each refusal 1 to 16 provoked once and compared with its name, and what a refused call leaves. judge.c has 17 to 19. */
 #include "check.h"
 #include <string.h>
 

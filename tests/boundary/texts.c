@@ -40,7 +40,7 @@ static void check_short(void) {
     same(open_text(C3, &record), 0);
     same_string(planner_write_batch, &record, C3);
     same(run(&record, 3).kind, PLANNER_PLAN);
-    same_string(planner_write_plan, &record, "B00102000300000003\nB1000001\nB1010000\n");
+    same_string(planner_write_plan, &record, C3_PLAN);
     same_string(planner_write_batch, &record, C3);
     begin("C5: the line for no plan");
     same(open_text(C5, &record), 0);

@@ -26,7 +26,7 @@ static int written(planner_text text, const uint8_t *buffer, const char *due) {
     return text.refusal == 0 && text.length == strlen(due) && memcmp(buffer, due, text.length) == 0;
 }
 
-/* One search in small budgets, with both texts at its end: 1 if it comes out as the document has it. */
+/* One search in small budgets, with both texts at its end and its plan judged: 1 if it comes out as the document has it. */
 static int search(uint32_t budget) {
     static const uint16_t due[4] = {0, 3, 1, 2};
     planner_record record;
@@ -40,7 +40,8 @@ static int search(uint32_t budget) {
     while (answer.kind == PLANNER_SPENT);
     return answer.kind == PLANNER_PLAN && answer.latency == 5 && answer.total == 17 && memcmp(starts, due, sizeof due) == 0 &&
            written(planner_write_plan(&record, plan, sizeof plan), plan, PLAN) &&
-           written(planner_write_batch(&record, batch, sizeof batch), batch, TASKS);
+           written(planner_write_batch(&record, batch, sizeof batch), batch, TASKS) &&
+           planner_judge(batch, strlen(TASKS), plan, strlen(PLAN)) == 0;
 }
 
 /* A chain of 24 jobs, each 10 ticks after the one before: every round but the last raises a start, and there are 24. */

@@ -1,4 +1,4 @@
-//! The C interface as include/planner.h has it: the same structs by the same names, the four calls, and the version.
+//! The C interface as include/planner.h has it: the same structs by the same names, the five calls, and the version.
 use crate::batch::{Delay, Job};
 use std::mem::{align_of, offset_of, size_of};
 
@@ -64,11 +64,12 @@ impl Record {
 }
 
 extern "C" {
-    pub fn planner_version_1() -> u32;
+    pub fn planner_version_2() -> u32;
     pub fn planner_open(file: *const u8, length: usize, record: *mut Record) -> u8;
     pub fn planner_run(record: *mut Record, budget: u32, starts: *mut u16, count: usize) -> Answer;
     pub fn planner_write_plan(record: *const Record, buffer: *mut u8, capacity: usize) -> Text;
     pub fn planner_write_batch(record: *const Record, buffer: *mut u8, capacity: usize) -> Text;
+    pub fn planner_judge(file: *const u8, file_length: usize, text: *const u8, text_length: usize) -> u8;
 }
 
 // The layout that the header asserts too.

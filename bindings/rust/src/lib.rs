@@ -1,5 +1,5 @@
 //! Plans batches of a print kiosk: each job gets a starting tick so that every delay is kept, no station is held by two jobs in one tick, and
-//! the plan is the shortest there is. This crate wraps the four calls of the proved planner's library, `libplanner_c.a`.
+//! the plan is the shortest there is. This crate wraps the five calls of the proved planner's library, `libplanner_c.a`.
 //!
 //! A [`Search`] is opened once for a batch file and then run in budgets of search nodes, as small as the caller likes, until its answer is
 //! no longer [`Answer::Spent`]. What comes out does not depend on how the nodes were shared out among the runs.
@@ -21,6 +21,8 @@
 //! # Ok::<(), planner::Refusal>(())
 //! ```
 //!
+//! A plan text, wherever it comes from, is judged beside its batch file by [`judge`].
+//!
 //! # Linking
 //!
 //! The build links `libplanner_c.a` from the folder that the environment variable `PLANNER_LIBRARY_DIR` names, else from the repository's
@@ -39,7 +41,7 @@ pub use refusal::Refusal;
 use std::fmt;
 
 /// The version of the library that this crate calls. It rises whenever the record's layout, a number's meaning or a call changes.
-pub const VERSION: u32 = 1;
+pub const VERSION: u32 = 2;
 /// The most jobs of a batch.
 pub const JOBS: usize = 24;
 /// The most nodes of one run.
@@ -270,10 +272,34 @@ impl fmt::Debug for Search {
     }
 }
 
+/// Judges a plan text, wherever it comes from, beside the batch file that it is for. It passes exactly where the file opens, the text is in form,
+/// its starts are a valid plan of the file's batch, and its latency is theirs. Neither the total nor whether the plan is the shortest is judged.
+///
+/// ```
+/// use planner::{judge, Refusal};
+///
+/// // Two jobs on one station: the second needs it in its first tick only.
+/// let file = b"A0010200\nA1010001\nA103000100020002\n";
+/// assert_eq!(judge(file, b"B00102000300000003\nB1000001\nB1010000\n"), Ok(()));
+/// // A longer plan passes too, as long as its latency is right.
+/// assert_eq!(judge(file, b"B00102000400000000\nB1000000\nB1010001\n"), Ok(()));
+/// assert_eq!(judge(file, b"B00102000300000000\nB1000000\nB1010001\n"), Err(Refusal::Invalid));
+/// ```
+///
+/// # Errors
+///
+/// First the file's refusals 1 to 10, as [`Search::open`] gives them; then, in this order, 17 [`Form`](Refusal::Form), asked of the whole text,
+/// 18 [`Jobs`](Refusal::Jobs) and 19 [`Invalid`](Refusal::Invalid).
+pub fn judge(file: &[u8], text: &[u8]) -> Result<(), Refusal> {
+    assert_version();
+    // SAFETY: each pointer is valid for its length and not null, also where the slice is empty; both are only read.
+    accepted(unsafe { ffi::planner_judge(file.as_ptr(), file.len(), text.as_ptr(), text.len()) })
+}
+
 /// Asks the library for its version. Who calls this refers to a name that an archive of another version has not.
 fn assert_version() {
     // SAFETY: the call takes nothing and touches no memory.
-    let version = unsafe { ffi::planner_version_1() };
+    let version = unsafe { ffi::planner_version_2() };
     assert_eq!(version, VERSION, "the library has another version than its function's name says");
 }
 
@@ -282,7 +308,7 @@ fn accepted(number: u8) -> Result<(), Refusal> {
     match Refusal::from_number(number) {
         Some(refusal) => Err(refusal),
         None => {
-            assert_eq!(number, 0, "the library has refusals 1 to 16");
+            assert_eq!(number, 0, "the library has refusals 1 to 19");
             Ok(())
         }
     }

@@ -1,4 +1,4 @@
-//! What sends a call back: the sixteen refusals by number, name and words.
+//! What sends a call back: the nineteen refusals by number, name and words.
 use std::error::Error;
 use std::fmt;
 
@@ -6,8 +6,9 @@ macro_rules! refusals {
     ($($number:literal $name:ident $words:literal)*) => {
         /// Why a call was refused. A refused call changes nothing.
         ///
-        /// Opening gives 1 to 10, running 11 to 14, writing 12, 15 and 16. A [`Search`](crate::Search) is always sound and its starts always
-        /// have room, so 12 and 13 never come from the calls of this crate; they are here because the library's numbers have them.
+        /// Opening gives 1 to 10, running 11 to 14, writing 12, 15 and 16, judging 1 to 10 and 17 to 19. A [`Search`](crate::Search) is always
+        /// sound and its starts always have room, so 12 and 13 never come from the calls of this crate; they are here because the library's
+        /// numbers have them.
         #[derive(Clone, Copy, Debug, PartialEq, Eq, Hash, PartialOrd, Ord)]
         #[repr(u8)]
         pub enum Refusal {
@@ -16,7 +17,7 @@ macro_rules! refusals {
 
         impl Refusal {
             /// Every refusal, in the order of their numbers.
-            pub const ALL: [Refusal; 16] = [$(Refusal::$name,)*];
+            pub const ALL: [Refusal; 19] = [$(Refusal::$name,)*];
 
             /// The refusal's condition in words.
             #[must_use]
@@ -46,16 +47,19 @@ refusals! {
     14 Total "the search has not ended, and total + budget is above 100,000,000"
     15 Unended "a plan text is wanted of a search that has not ended"
     16 Buffer "the text is longer than the buffer"
+    17 Form "the plan text is not one B0 line with 01 and then only B1 lines, each of its length"
+    18 Jobs "the plan text's n is not the batch's, or its job lines are not jobs 0 to n - 1 in order"
+    19 Invalid "the plan is not valid, or its latency is wrong"
 }
 
 impl Refusal {
-    /// The refusal's number, 1 to 16.
+    /// The refusal's number, 1 to 19.
     #[must_use]
     pub fn number(self) -> u8 {
         self as u8
     }
 
-    /// The refusal with this number; none outside 1 to 16.
+    /// The refusal with this number; none outside 1 to 19.
     #[must_use]
     pub fn from_number(number: u8) -> Option<Refusal> {
         Refusal::ALL.get(usize::from(number).checked_sub(1)?).copied()

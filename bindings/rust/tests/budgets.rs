@@ -32,7 +32,7 @@ fn judged(file: &[u8], search: &Search, answer: Answer) {
     let text = String::from_utf8(search.plan_text().unwrap()).unwrap();
     match (answer, search.plan()) {
         (Answer::Plan { latency, total }, Some(plan)) => {
-            assert_eq!(Batch::of(file).fault(&plan), None);
+            assert_eq!(Batch::of(file).fault(plan.starts(), plan.latency()), None);
             assert_eq!(plan.latency(), latency);
             assert_eq!(search.best(), Some(plan));
             let mut due = format!("B001{:02X}{latency:04X}{total:08X}\n", search.jobs().len());

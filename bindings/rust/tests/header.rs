@@ -37,7 +37,8 @@ fn numbers() {
 #[test]
 fn refusals() {
     let defined = defined();
-    assert_eq!(defined.keys().filter(|name| name.starts_with("REFUSAL_")).count(), Refusal::ALL.len());
+    assert_eq!(Refusal::ALL.len(), 19);
+    assert_eq!(defined.keys().filter(|name| name.starts_with("REFUSAL_")).count(), 19);
     for refusal in Refusal::ALL {
         let name = format!("REFUSAL_{refusal:?}").to_uppercase();
         assert_eq!(defined.get(&name), Some(&usize::from(refusal.number())), "PLANNER_{name}");

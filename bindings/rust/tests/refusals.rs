@@ -1,5 +1,5 @@
 //! Every refusal by its number, its words and a call that gives it. No safe call gives 12 and 13, and 14 takes 100,000,000 nodes: 12 and 14 are
-//! tested beside the record itself, in src/lib.rs.
+//! tested beside the record itself, in src/lib.rs. Those of judging are in judge.rs.
 mod common;
 
 use common::{repository, Batch, Random};
@@ -11,11 +11,11 @@ const C3: &[u8] = b"A0010200\nA1010001\nA103000100020002\n";
 #[test]
 fn numbers() {
     let numbers: Vec<u8> = Refusal::ALL.iter().map(|refusal| refusal.number()).collect();
-    assert_eq!(numbers, (1..=16).collect::<Vec<u8>>());
+    assert_eq!(numbers, (1..=19).collect::<Vec<u8>>());
     for refusal in Refusal::ALL {
         assert_eq!(Refusal::from_number(refusal.number()), Some(refusal));
     }
-    assert_eq!((Refusal::from_number(0), Refusal::from_number(17), Refusal::from_number(255)), (None, None, None));
+    assert_eq!((Refusal::from_number(0), Refusal::from_number(20), Refusal::from_number(255)), (None, None, None));
 }
 
 /// The words are those of the README's table of refusals.
@@ -27,13 +27,13 @@ fn words() {
     for row in table.lines().take_while(|line| !line.starts_with("## ")) {
         let cells: Vec<&str> = row.split('|').map(str::trim).collect();
         let Some(Ok(number)) = cells.get(1).map(|cell| cell.parse()) else { continue };
-        let refusal = Refusal::from_number(number).expect("a number of 1 to 16");
+        let refusal = Refusal::from_number(number).expect("a number of 1 to 19");
         assert_eq!(refusal.to_string(), cells[2]);
         let error: Box<dyn std::error::Error> = Box::new(refusal);
         assert_eq!(error.to_string(), cells[2]);
         compared += 1;
     }
-    assert_eq!(compared, 16);
+    assert_eq!(compared, 19);
 }
 
 #[test]

@@ -6,6 +6,7 @@ use crate::widths::of_pair;
 use crate::widths::of_place;
 use crate::widths::of_word;
 use model::Answer;
+use model::Judgement;
 use model::Opening;
 use model::Written;
 
@@ -15,6 +16,15 @@ pub fn put_opening(out: &mut [u8], answer: Opening) -> usize {
     match answer {
         Opening::Accepted => put_number(out, at, b' ', 0),
         Opening::Refused(number) => put_number(out, at, b' ', of_byte(number)),
+    }
+}
+
+// The answer of judging: 0, or the refusal's number.
+pub fn put_judgement(out: &mut [u8], answer: Judgement) -> usize {
+    let at = put(out, 0, b'J');
+    match answer {
+        Judgement::Passed => put_number(out, at, b' ', 0),
+        Judgement::Refused(number) => put_number(out, at, b' ', of_byte(number)),
     }
 }
 

@@ -1,7 +1,9 @@
 // The planner's calls, made on the present record. The answer goes into the line of output.
 use crate::answers::put_answer;
+use crate::answers::put_judgement;
 use crate::answers::put_opening;
 use crate::answers::put_written;
+use crate::digits::blank_from;
 use crate::digits::read_file;
 use crate::text::put;
 use crate::text::put_colon;
@@ -134,5 +136,37 @@ fn written(search: Search, letter: u8, buffer: &mut [u8]) -> Written {
         planner::write_plan(search, buffer)
     } else {
         planner::write_batch(search, buffer)
+    }
+}
+
+// Judges the second file of a line, a plan text, beside the first.
+pub fn judge(search: Search, line: &[u8], out: &mut [u8]) -> Done {
+    let blank = blank_from(line, 2);
+    if line.len() <= blank {
+        return unknown(search, out);
+    }
+    if blank < 2 {
+        return unknown(search, out);
+    }
+    let mut file = io::large_buffer();
+    let mut text = io::large_buffer();
+    let count = read_file(&line[0..blank], &mut file);
+    let size = read_file(&line[blank - 1..], &mut text);
+    judged(search, &file, count, &text, size, out)
+}
+
+// Judges the first bytes of a buffer beside those of another.
+fn judged(search: Search, file: &[u8], count: usize, text: &[u8], size: usize, out: &mut [u8]) -> Done {
+    if file.len() < count {
+        return unknown(search, out);
+    }
+    if text.len() < size {
+        return unknown(search, out);
+    }
+    let answer = planner::judge(&file[0..count], &text[0..size]);
+    let length = put_judgement(out, answer);
+    Done {
+        search: search,
+        length: length,
     }
 }

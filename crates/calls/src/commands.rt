@@ -1,5 +1,6 @@
 // One line of input: which call it names, and with which numbers. The answer goes into the line of output.
 use crate::calling::Done;
+use crate::calling::judge;
 use crate::calling::open;
 use crate::calling::run;
 use crate::calling::unknown;
@@ -18,6 +19,7 @@ pub fn call(search: Search, line: &[u8], out: &mut [u8]) -> Done {
     let letter = byte_of(line, 0);
     match letter {
         b'O' => open(search, line, out),
+        b'J' => judge(search, line, out),
         b'R' | b'P' | b'B' | b'S' | b'D' => numbered(search, letter, numbers_of(line), out),
         _ => unknown(search, out),
     }

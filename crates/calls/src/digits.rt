@@ -19,6 +19,18 @@ pub fn read_file(line: &[u8], file: &mut [u8]) -> usize {
     decode(&line[2..], file)
 }
 
+// The first place at or after `at` with a blank; the line's length or more where there is none.
+pub fn blank_from(line: &[u8], at: usize) -> usize {
+    let mut next = at;
+    while next < line.len() {
+        if byte_of(line, next) == b' ' {
+            return next;
+        }
+        next += 1;
+    }
+    next
+}
+
 // The bytes of digits, put into a buffer: their number.
 fn decode(digits: &[u8], file: &mut [u8]) -> usize {
     let mut count: usize = 0;

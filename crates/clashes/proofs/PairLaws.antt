@@ -11,12 +11,12 @@ use Rattle.model.specs.declared.Batch.{Batch}
 use Rattle.model.specs.Common.{if_then_else_, count, keep}
 use Rattle.model.specs.Batch.{jobOf, ticks, mask}
 use Rattle.model.specs.Clash.{Clash, clashing, distances, clashesOf}
-use Rattle.model.proofs.SeqLaws.{count-more, count-end}
+use Rattle.model.proofs.SeqLaws.{count-more, count-end, map-map}
 use Rattle.clashes.specs.declared.Clashes.{Clashes}
 use Rattle.clashes.specs.Code.{lift, codeOf}
 use Rattle.clashes.specs.Tables.{tableOf, tablesMeet}
 use Rattle.clashes.specs.List.{put, addAll, pairCodes, Grown}
-use Rattle.clashes.proofs.SeqLaws.{keep-map, map-map}
+use Rattle.clashes.proofs.SeqLaws.{keep-map}
 use Rattle.clashes.proofs.CodeLaws.{lift-sub}
 use Rattle.clashes.proofs.TableLaws.{tables-apart}
 

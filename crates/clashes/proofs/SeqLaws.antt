@@ -20,8 +20,3 @@ module _ {A B : Type 0} where
   pub map-append : (g : A → B) (xs ys : List A) → map g (xs ++ ys) ≡ map g xs ++ map g ys
   map-append g [] ys = refl
   map-append g (x ∷ xs) ys = rw (map-append g xs ys)
-
-  -- a list mapped twice
-  pub map-map : {C : Type 0} (f : B → C) (g : A → B) (h : A → C) → ((x : A) → f (g x) ≡ h x) → (xs : List A) → map f (map g xs) ≡ map h xs
-  map-map f g h e [] = refl
-  map-map f g h e (x ∷ xs) = rw (e x, map-map f g h e xs)

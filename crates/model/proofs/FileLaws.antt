@@ -98,7 +98,7 @@ file-read b w =
 -- ---- writing what was read
 
 -- nothing is left
-no-more : (end : List ℕ) → isEmpty end ≡ true → end ≡ []
+pub no-more : (end : List ℕ) → isEmpty end ≡ true → end ≡ []
 unfolding isEmpty
 no-more [] e = refl
 no-more (c ∷ cs) e = apart e

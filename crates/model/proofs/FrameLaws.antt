@@ -60,7 +60,7 @@ abbrev pub IsWide : ℕ → Type 0
 IsWide v = v < 65536
 
 -- the two bytes of a number made of two bytes
-two-back : (h l : ℕ) → h < 256 → l < 256 → two (h * 256 + l) ≡ h ∷ l ∷ []
+pub two-back : (h l : ℕ) → h < 256 → l < 256 → two (h * 256 + l) ≡ h ∷ l ∷ []
 unfolding two
 two-back h l hh hl = ap₂ (λ (x y : ℕ). x ∷ y ∷ []) (omega arith) (omega arith)
 
@@ -89,7 +89,7 @@ wides-two (v ∷ vs) h =
 -- ---- the bytes of a frame
 
 -- the test of a frame's kind and length
-frame-iff : (kind size : ℕ) (f : List ℕ) → frameIs kind size f ≡ true ↔ ((at f 0 ≡ kind) × (length f ≡ size))
+pub frame-iff : (kind size : ℕ) (f : List ℕ) → frameIs kind size f ≡ true ↔ ((at f 0 ≡ kind) × (length f ≡ size))
 unfolding frameIs
 frame-iff kind size f = (
   λ e. let r = both (eqb (at f 0) kind) (eqb (length f) size) e in (eqb-true (at f 0) kind (r .0), eqb-true (length f) size (r .1)),
@@ -97,13 +97,13 @@ frame-iff kind size f = (
 )
 
 -- a frame of known length is its bytes
-at-each : (f : List ℕ) (k : ℕ) → length f ≡ k → map (at f) (count 0 k) ≡ f
+pub at-each : (f : List ℕ) (k : ℕ) → length f ≡ k → map (at f) (count 0 k) ≡ f
 unfolding at
 at-each f k e =
     ap₂ (λ (g : List ℕ) (n : ℕ). map (λ i. getD g i 0) (count 0 n)) (sym (append-nil f)) (sym e) ∙ by-index f [] 0
 
 -- each place of a frame holds a byte
-at-byte : (f : List ℕ) (k : ℕ) → Bytes f → at f k < 256
+pub at-byte : (f : List ℕ) (k : ℕ) → Bytes f → at f k < 256
 unfolding at
 at-byte [] k h = omega arith
 at-byte (x ∷ f) zero h = each-head IsByte h

@@ -25,5 +25,7 @@ pub mod ReadLaws
 pub mod FrameLaws
 pub mod FileLaws
 pub mod OpenLaws
+pub mod ClaimLaws
+pub mod JudgeLaws
 pub mod PinLaws
 pub mod ProgramLaws

@@ -1,5 +1,5 @@
--- The numbers that each call refuses with: opening 1 to 10, a run 11 to 14, the plan text 12, 15 or 16, the batch text 12 or 16. A chain of steps
--- refuses only with numbers that its steps refuse with.
+-- The numbers that each call refuses with: opening 1 to 10, a run 11 to 14, the plan text 12, 15 or 16, the batch text 12 or 16, judging 1 to 10
+-- and 17 to 19. A chain of steps refuses only with numbers that its steps refuse with.
 use Prim.Native.Nat.{ℕ, zero, suc, _≤_}
 use mathlib.Core.Path.{_≡_, refl, sym, subst}
 use mathlib.Core.Logic.{_⊎_, inl, inr}
@@ -13,6 +13,7 @@ use Rattle.model.specs.Line.{readLine}
 use Rattle.model.specs.Open.{header, job, delay, due, readOne, readAll, readFile, openFile}
 use Rattle.model.specs.Run.{runRefusal}
 use Rattle.model.specs.Text.{planText, batchText, fitting}
+use Rattle.model.specs.Judge.{readClaim, as17, judgeText, judge}
 use Rattle.model.proofs.OutcomeLaws.{refused, refuse-as}
 
 -- every refusal of this answer has a number that P holds of
@@ -140,3 +141,24 @@ plan-refusals s room = only-fitting (planText s) room (inr (inr refl)) (only-pla
 -- writing a batch text refuses with 12 or 16
 pub batch-refusals : (s : Search) (room k : ℕ) → fitting (batchText s) room ≡ refuse k → BatchNumber k
 batch-refusals s room = only-fitting (batchText s) room (inr refl) (only-batch s) .number
+
+-- ---- judging
+
+abbrev pub JudgeNumber : ℕ → Type 0
+JudgeNumber k = OpenNumber k ⊎ ((17 ≤ k) × (k ≤ 19))
+
+only-as17 : {A : Type 0} {P : ℕ → Type 0} (o : Outcome A) → P 17 → Only P (as17 o)
+unfolding as17
+only-as17 (refuse k) p = only-refuse p
+only-as17 (accept a) p = only-accept a
+
+only-judge : (file text : List ℕ) → Only JudgeNumber (judge file text)
+unfolding judge judgeText
+only-judge file text =
+    only-bind _ (record { number = λ k e. inl (open-refusals file k e) }) (λ b.
+    only-bind _ (only-as17 (readClaim text) (inr (omega arith, omega arith))) (λ c.
+    only-after 18 _ _ (inr (omega arith, omega arith)) (only-require 19 _ (inr (omega arith, omega arith)))))
+
+-- judging refuses with 1 to 10, or 17 to 19
+pub judge-refusals : (file text : List ℕ) (k : ℕ) → judge file text ≡ refuse k → JudgeNumber k
+judge-refusals file text = only-judge file text .number

@@ -33,6 +33,11 @@ pub map-snoc : {A B : Type 0} (f : A → B) (xs : List A) (x : A) → map f (xs 
 map-snoc f [] x = refl
 map-snoc f (y ∷ xs) x = ap (λ (l : List _). f y ∷ l) (map-snoc f xs x)
 
+-- a list mapped twice
+pub map-map : {A B C : Type 0} (f : B → C) (g : A → B) (h : A → C) → ((x : A) → f (g x) ≡ h x) → (xs : List A) → map f (map g xs) ≡ map h xs
+map-map f g h e [] = refl
+map-map f g h e (x ∷ xs) = rw (e x, map-map f g h e xs)
+
 module _ {A : Type 0} (f : ℕ → A) where
   pub listed-snoc : (k : ℕ) → map f (count 0 (suc k)) ≡ map f (count 0 k) ++ (f k ∷ [])
   listed-snoc k =

@@ -10,11 +10,12 @@ use Rattle.model.specs.Format.{unsigned, headerLine, masksOf, jobLine, d
 use Rattle.model.specs.Open.{countsOk, ticksOk, jobsOk, weightOk, fewClashes, delaysMet, at, wide, signed, frameIs, header, wides, jobIn, job, delayIn, delay, due, readOne, readAll, readFile, openFile, blankSearch, openedAs, opened}
 use Rattle.model.specs.Sound.{soundBatch, distinct, soundTurns, soundPath, soundBest, sound}
 use Rattle.model.specs.Run.{runRefusal, counted, answerOf, startsAfter, answered, ranAs, ran}
-use Rattle.model.specs.Answers.{runTold, totalTold, verdictOf, openTold, writeTold, bestTold}
+use Rattle.model.specs.Answers.{runTold, totalTold, verdictOf, openTold, writeTold, judgeTold, bestTold}
 use Rattle.model.specs.Text.{planLines, planText, batchText, refusalLine, fitting, writtenAs, written}
+use Rattle.model.specs.Judge.{jobsIn, startsIn, claimText, RightJobs, RightPlan, claimHead, claimLine, readLines, readClaim, as17, jobsRight, keeps, valid, planRight, judgeText, judge, judgedAs, judged}
 use Rattle.model.specs.Program.{goOn, planned, printed, textFor}
 use Rattle.model.specs.Calls.{call, after, refuses, granted}
 
 unfoldable pub definitions : Unit {0}
-unfolding if_then_else_ between eqZ count all any keep upTo pad joined isEmpty isSome _>>=_ require given blankJob blankDelay jobOf ticks mask bit delayOf delaysOf start Keeps Holds KeepsDelays KeepsStations finish latency meet clashing distances clashesOf clashes plus raised rounds same firstStarts leastStarts heavier entry table noClash sideOf turned inequalities startsAt met firstMet nextSide movedOn turnedBack backTo back prunes becomeBest branch visit next empty isTurn turnsOf placeOf searchOf freshPlace freshSearch node nodesOn nodes nodeLimit digit byte bytesOf lineOf frameBytes readLine digitOf digitsOf line two four unsigned headerLine masksOf jobLine delayLine jobsOf batchFile padJob batchOf blanked countsOk ticksOk jobsOk weightOk fewClashes delaysMet at wide signed frameIs header wides jobIn job delayIn delay due readOne readAll readFile openFile blankSearch openedAs opened soundBatch distinct soundTurns soundPath soundBest sound runRefusal counted answerOf startsAfter answered ranAs ran runTold totalTold verdictOf openTold writeTold bestTold planLines planText batchText refusalLine fitting writtenAs written goOn planned printed textFor call after refuses granted
+unfolding if_then_else_ between eqZ count all any keep upTo pad joined isEmpty isSome _>>=_ require given blankJob blankDelay jobOf ticks mask bit delayOf delaysOf start Keeps Holds KeepsDelays KeepsStations finish latency meet clashing distances clashesOf clashes plus raised rounds same firstStarts leastStarts heavier entry table noClash sideOf turned inequalities startsAt met firstMet nextSide movedOn turnedBack backTo back prunes becomeBest branch visit next empty isTurn turnsOf placeOf searchOf freshPlace freshSearch node nodesOn nodes nodeLimit digit byte bytesOf lineOf frameBytes readLine digitOf digitsOf line two four unsigned headerLine masksOf jobLine delayLine jobsOf batchFile padJob batchOf blanked countsOk ticksOk jobsOk weightOk fewClashes delaysMet at wide signed frameIs header wides jobIn job delayIn delay due readOne readAll readFile openFile blankSearch openedAs opened soundBatch distinct soundTurns soundPath soundBest sound runRefusal counted answerOf startsAfter answered ranAs ran runTold totalTold verdictOf openTold writeTold judgeTold bestTold planLines planText batchText refusalLine fitting writtenAs written jobsIn startsIn claimText RightJobs RightPlan claimHead claimLine readLines readClaim as17 jobsRight keeps valid planRight judgeText judge judgedAs judged goOn planned printed textFor call after refuses granted
 definitions = tt

@@ -10,6 +10,8 @@ use Rattle.model.specs.declared.Opening.{Opening}
 use Rattle.model.specs.declared.Opening.the-variants.{Accepted, Refused as Closed}
 use Rattle.model.specs.declared.Written.{Written}
 use Rattle.model.specs.declared.Written.the-variants.{Bytes, Refused as Unwritten}
+use Rattle.model.specs.declared.Judgement.{Judgement}
+use Rattle.model.specs.declared.Judgement.the-variants.{Passed, Refused as Failed}
 use Rattle.model.specs.Common.{Outcome, refuse, accept}
 
 -- a run: spent with the total, a plan with latency and total, or no plan with the total
@@ -44,6 +46,11 @@ openTold (Closed number) = refuse number
 unfoldable pub writeTold : Written → Outcome ℕ
 writeTold (Bytes number) = accept number
 writeTold (Unwritten number) = refuse number
+
+-- judging: passed, or refused
+unfoldable pub judgeTold : Judgement → Outcome (Unit {0})
+judgeTold Passed = accept tt
+judgeTold (Failed number) = refuse number
 
 -- best: none, or a latency
 unfoldable pub bestTold : Best → Option ℕ

@@ -1,4 +1,4 @@
--- Document 01 as definitions, in its order. `All` unfolds them together; `Marked` has 01's marked batches.
+-- Document 01 as definitions, in its order, and the change requests of 02 that landed, each where what it speaks of stands. `All` unfolds them together; `Marked` has 01's marked batches.
 pub mod Common
 pub mod Limits
 pub mod Batch
@@ -13,6 +13,7 @@ pub mod Sound
 pub mod Run
 pub mod Answers
 pub mod Text
+pub mod Judge
 pub mod Program
 pub mod Calls
 pub mod Demands

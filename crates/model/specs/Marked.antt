@@ -1,5 +1,5 @@
 -- Marked batches: C1 to C10 of 01 and rows of our own that rule out misreadings which those leave standing. One table, and the theorem that
--- every row is what the definitions give; then what the program prints for C3, and that the bound on N is reached.
+-- every row is what the definitions give; then plan texts beside files (02, Q-1), what the program prints for C3, and that the bound on N is reached.
 use Prim.Native.Nat.{ℕ}
 use Prim.Native.Char.{code}
 use Prim.Native.String.{String, [] as end, _∷_ as _then_}
@@ -14,7 +14,8 @@ use Rattle.model.specs.Common.{if_then_else_, Outcome, refuse, accept, _
 use Rattle.model.specs.Search.{nodes, freshSearch, Ends, nodeLimit}
 use Rattle.model.specs.Open.{opened}
 use Rattle.model.specs.Run.{ran}
-use Rattle.model.specs.Answers.{Verdict, spent, plan, noPlan, runTold, openTold}
+use Rattle.model.specs.Answers.{Verdict, spent, plan, noPlan, runTold, openTold, judgeTold}
+use Rattle.model.specs.Judge.{judged}
 use Rattle.model.specs.Program.{textFor}
 use Rattle.model.specs.All.{definitions}
 
@@ -133,6 +134,49 @@ gives r = let o = opened (r .file) in openTold (o .answer) >>= λ u. accept (sho
 pub marked : map gives rows ≡ map (λ r. r .stated) rows
 unfolding definitions rows refusedWith opens untouched planAt spentAt noPlanAt refusedRun c3 once gives shown runs endsAt characters fileOf
 marked = refl
+
+-- ---- plan texts beside files (02, Q-1)
+
+pub record PlanRow : Type 0 where
+  pub file : List ℕ
+  pub text : List ℕ
+  pub stated : Outcome (Unit {0})
+
+unfoldable pub judging : String → List ℕ → Outcome (Unit {0}) → PlanRow
+judging file text stated = record { file = fileOf file; text = text; stated = stated }
+
+unfoldable pub planRows : List PlanRow
+planRows =
+    -- C3's plan as it is printed; another total; a longer plan
+    judging c3 (fileOf "B00102000300000003 B1000001 B1010000") (accept tt)
+    ∷ judging c3 (fileOf "B001020003FFFFFFFF B1000001 B1010000") (accept tt)
+    ∷ judging c3 (fileOf "B00102001600000000 B1000000 B1010013") (accept tt)
+    -- the file's own refusals come first
+    ∷ judging "A0010202 A1010001 A1010002 A200010001 A201000000" [] (refuse 10)
+    -- 17: nothing, no plan, edition 02, an empty line, no 0A at the end; and before 18, in the last line too
+    ∷ judging c3 [] (refuse 17)
+    ∷ judging c3 (fileOf "B200000003") (refuse 17)
+    ∷ judging c3 (fileOf "B00202000300000003 B1000001 B1010000") (refuse 17)
+    ∷ judging c3 (fileOf "B00102000300000003 B1000001 B1010000 ") (refuse 17)
+    ∷ judging c3 (characters "B00102000300000003 B1000001 B1010000") (refuse 17)
+    ∷ judging c3 (fileOf "B00103000300000003 B1010001 B101") (refuse 17)
+    -- 18: another n, a job missing, one too many, out of order; and before 19
+    ∷ judging c3 (fileOf "B00103000300000003 B1000001 B1010000") (refuse 18)
+    ∷ judging c3 (fileOf "B00102000300000003 B1000001") (refuse 18)
+    ∷ judging c3 (fileOf "B00102000300000003 B1000001 B1010000 B1020000") (refuse 18)
+    ∷ judging c3 (fileOf "B00102000000000003 B1010000 B1000001") (refuse 18)
+    -- 19: one station held twice, a latency one off, a delay kept by all but one tick
+    ∷ judging c3 (fileOf "B00102000300000003 B1000000 B1010000") (refuse 19)
+    ∷ judging c3 (fileOf "B00102000400000003 B1000001 B1010000") (refuse 19)
+    ∷ judging "A0010202 A1010001 A1010002 A200010001 A20100FFFF" (fileOf "B00102000100000001 B1000000 B1010000") (refuse 19)
+    -- the latest start there is: its latency has no two bytes, and one tick earlier it has
+    ∷ judging "A0010100 A1010001" (fileOf "B00101000000000001 B100FFFF") (refuse 19)
+    ∷ judging "A0010100 A1010001" (fileOf "B00101FFFF00000001 B100FFFE") (accept tt)
+    ∷ []
+
+pub marked-plans : map (λ r. judgeTold (judged (r .file) (r .text))) planRows ≡ map (λ r. r .stated) planRows
+unfolding definitions planRows judging characters fileOf c3
+marked-plans = refl
 
 -- ---- the program
 

@@ -80,6 +80,12 @@ pub enum Written {
     Refused(u8),
 }
 
+// The answer of judging a plan text.
+pub enum Judgement {
+    Passed,
+    Refused(u8),
+}
+
 // The nodes visited and the nodes still allowed.
 pub struct Tally {
     pub total: u32,

@@ -3,7 +3,7 @@ mod batch;
 mod delay;
 mod delays;
 mod few;
-mod frame;
+pub mod frame;
 mod header;
 mod job;
 mod jobs;

@@ -32,7 +32,7 @@ called-after (more {t} {c} {cs} r list′ e h) = called-after h ∙ ap (λ (x : 
 
 -- ---- demand 1
 
-writing : (text : Outcome (List ℕ)) (buffer : List ℕ) (w : Written) (buffer′ : List ℕ) → (w, buffer′) ≡ written text buffer → WritingLeaves text buffer w buffer′
+pub writing : (text : Outcome (List ℕ)) (buffer : List ℕ) (w : Written) (buffer′ : List ℕ) → (w, buffer′) ≡ written text buffer → WritingLeaves text buffer w buffer′
 writing text buffer w buffer′ e = subst (λ (x : Written × List ℕ). WritingLeaves text buffer (x .0) (x .1)) (sym e) (writing-leaves text buffer)
 
 pub demand-1 : Demand1

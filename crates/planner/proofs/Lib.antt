@@ -1,3 +1,4 @@
--- The demands, proved of what the public calls return, and pinned.
+-- The demands and the requests that landed, proved of what the public calls return, and pinned.
 pub mod Demands
 pub mod Pins
+pub mod Judging

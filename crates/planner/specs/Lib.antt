@@ -1,2 +1,3 @@
--- The demands as statements about what the public calls return.
+-- The demands, and the change requests that landed, as statements about what the public calls return.
 pub mod Demands
+pub mod Judging

@@ -1,4 +1,5 @@
 // The planner's public calls. None asks anything of its caller: whatever is wrong with what it is given is refused, by 01's number.
+use model::Judgement;
 use model::Opened;
 use model::Ran;
 use model::Search;
@@ -7,6 +8,7 @@ ghost use mathlib.Core.Path.{_≡_};
 ghost use Rattle.model.specs.Open.{opened};
 ghost use Rattle.model.specs.Run.{ran};
 ghost use Rattle.model.specs.Text.{planText, batchText, written};
+ghost use Rattle.model.specs.Judge.{judged};
 
 // Opens a batch file: the fresh search of its batch, or a refusal, 1 to 10, and the blank record.
 pub fn open(file: &[u8]) -> Opened
@@ -35,4 +37,11 @@ pub fn write_batch(search: Search, buffer: &mut [u8]) -> Written
     ensures { λ r. ⌜ (r, now (buffer .exit)) ≡ written (batchText search) (now (buffer .entry)) ⌝ }
 {
     writing::write_batch(search, buffer)
+}
+
+// Judges a plan text beside its batch file: passed where it is a valid plan with its latency, or a refusal: the file's own, 1 to 10, or 17, 18 or 19.
+pub fn judge(file: &[u8], text: &[u8]) -> Judgement
+    ensures { λ r. ⌜ r ≡ judged (now (file .entry)) (now (text .entry)) ⌝ }
+{
+    judging::judge_file(file, text)
 }

@@ -20,16 +20,18 @@ use Rattle.model.specs.Format.{BatchFile}
 use Rattle.model.specs.Open.{openFile, openedAs as openedBy, opened}
 use Rattle.model.specs.Run.{runRefusal, answerOf, answered, ranAs as ranBy, ran}
 use Rattle.model.specs.Text.{planText, batchText, fitting, writtenAs as writtenBy, written}
+use Rattle.model.specs.Judge.{RightText, judge, judgedAs, judged}
 use Rattle.model.specs.Answers.{Verdict, spent, plan, noPlan, runTold}
 use Rattle.model.proofs.OutcomeLaws.{refused, accept-eq}
-use Rattle.model.proofs.RefusalLaws.{OpenNumber, RunNumber, PlanNumber, BatchNumber, open-refusals, run-refusals, plan-refusals, batch-refusals}
+use Rattle.model.proofs.RefusalLaws.{OpenNumber, RunNumber, PlanNumber, BatchNumber, JudgeNumber, open-refusals, run-refusals, plan-refusals, batch-refusals, judge-refusals}
 use Rattle.model.proofs.OpenLaws.{open-format}
+use Rattle.model.proofs.JudgeLaws.{judge-right}
 use Rattle.planner_c.specs.declared.records.Record.{Record}
 use Rattle.planner_c.specs.declared.replies.Reply.{Reply}
 use Rattle.planner_c.specs.declared.replies.Text.{Text}
 use Rattle.planner_c.specs.Records.{searchIn, recordOf}
-use Rattle.planner_c.specs.Replies.{numberOf, replyOf, textOf}
-use Rattle.planner_c.specs.Calls.{recordOpened, openedAs, openedRecord, recordAfter, ranAs, ranRecord, textAs, writtenText}
+use Rattle.planner_c.specs.Replies.{numberOf, replyOf, textOf, judgeNumber}
+use Rattle.planner_c.specs.Calls.{recordOpened, openedAs, openedRecord, recordAfter, ranAs, ranRecord, textAs, writtenText, judgedNumber}
 use Rattle.planner_c.proofs.RecordLaws.{reached}
 
 -- ---- opening
@@ -155,3 +157,23 @@ plan-says s buffer = text-says PlanNumber (λ p. ⊎-elim (λ z. omega arith) (�
 
 pub batch-says : (s : Record) (buffer : List ℕ) → let w = writtenText (batchText (searchIn s)) buffer in TextSays BatchNumber (batchText (searchIn s)) buffer (w .0) (w .1)
 batch-says s buffer = text-says BatchNumber (λ p. ⊎-elim (λ z. omega arith) (λ z. omega arith) p) (batchText (searchIn s)) buffer (batch-refusals (searchIn s) (length buffer))
+
+-- ---- judging
+
+-- the number is 0 exactly where the file opens and the text is a right plan text for its batch; any other number is the refusal, 1 to 10 or 17 to 19
+pub record JudgeSays (file text : List ℕ) (number : ℕ) : Type 0 where
+  pub passes : (number ≡ 0) ↔ ((b : Batch) × BatchFile file b × RightText b text)
+  pub refused : number ≢ 0 → JudgeNumber number × (judge file text ≡ refuse number)
+
+pub judge-says : (file text : List ℕ) → JudgeSays file text (judgedNumber file text)
+unfolding judgedNumber judgeNumber judged judgedAs
+judge-says file text = by (judge file text) refl
+  where
+    by : (o : Outcome (Unit {0})) → judge file text ≡ o → JudgeSays file text (judgeNumber (judgedAs o))
+    by (refuse k) e =
+        let n = judge-refusals file text k e in
+        record {
+          passes = (λ z. absurd (⊎-elim (λ h. omega (arith, z, h .0)) (λ h. omega (arith, z, h .0)) n), λ r. refused (sym e ∙ judge-right file text .1 r));
+          refused = λ _. (n, e);
+        }
+    by (accept u) e = record { passes = (λ z. judge-right file text .0 e, λ r. refl); refused = λ n. absurd (n refl) }

@@ -1,4 +1,5 @@
--- What each call yields on C's records: the planner's own `opened`, `ran` and `written`, on the search that the record stands for.
+-- What each call yields on C's records: the planner's own `opened`, `ran` and `written`, on the search that the record stands for; and
+-- `judged`, which takes no record.
 use Prim.Native.Nat.{ℕ}
 use mathlib.Core.List.{List, [], _∷_}
 use Rattle.model.specs.declared.Answer.{Answer}
@@ -13,12 +14,13 @@ use Rattle.model.specs.Common.{Outcome}
 use Rattle.model.specs.Open.{opened}
 use Rattle.model.specs.Run.{ran}
 use Rattle.model.specs.Text.{written}
+use Rattle.model.specs.Judge.{judged}
 use Rattle.model.specs.Calls.{Call}
 use Rattle.planner_c.specs.declared.records.Record.{Record}
 use Rattle.planner_c.specs.declared.replies.Reply.{Reply}
 use Rattle.planner_c.specs.declared.replies.Text.{Text}
 use Rattle.planner_c.specs.Records.{searchIn, recordOf}
-use Rattle.planner_c.specs.Replies.{numberOf, replyOf, textOf}
+use Rattle.planner_c.specs.Replies.{numberOf, replyOf, textOf, judgeNumber}
 
 -- the record after opening: the one given where the file is refused, else the record of the fresh search
 unfoldable pub recordOpened : Record → Opening → Search → Record
@@ -57,3 +59,7 @@ textAs (w, buffer) = (textOf w, buffer)
 
 unfoldable pub writtenText : Outcome (List ℕ) → List ℕ → Text × List ℕ
 writtenText text buffer = textAs (written text buffer)
+
+-- judging: 0, or the refusal
+unfoldable pub judgedNumber : List ℕ → List ℕ → ℕ
+judgedNumber file text = judgeNumber (judged file text)

@@ -6,6 +6,8 @@ use Rattle.model.specs.declared.Opening.{Opening}
 use Rattle.model.specs.declared.Opening.the-variants.{Accepted, Refused as Closed}
 use Rattle.model.specs.declared.Written.{Written}
 use Rattle.model.specs.declared.Written.the-variants.{Bytes, Refused as Unwritten}
+use Rattle.model.specs.declared.Judgement.{Judgement}
+use Rattle.model.specs.declared.Judgement.the-variants.{Passed, Refused as Failed}
 use Rattle.planner_c.specs.declared.replies.Reply.{Reply}
 use Rattle.planner_c.specs.declared.replies.Text.{Text}
 
@@ -25,3 +27,8 @@ replyOf (Refused number) = record { kind = 3; refusal = number; latency = 0; tot
 unfoldable pub textOf : Written → Text
 textOf (Bytes number) = record { length = number; refusal = 0 }
 textOf (Unwritten number) = record { length = 0; refusal = number }
+
+-- judging: 0, or the refusal
+unfoldable pub judgeNumber : Judgement → ℕ
+judgeNumber Passed = 0
+judgeNumber (Failed number) = number

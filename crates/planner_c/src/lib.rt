@@ -1,5 +1,6 @@
 // The planner's calls for C: the caller keeps the record, plain numbers only, and lends it with its buffers. None asks anything of its caller
-// beyond valid memory. Each copies the record and makes the call by value; opening and running store what it yields. The version stands apart.
+// beyond valid memory. Each copies the record and makes the call by value; opening and running store what it yields. Judging needs no record, and
+// the version stands apart.
 use calls::batch_text;
 use calls::open_record;
 use calls::plan_text;
@@ -7,10 +8,11 @@ use calls::run_record;
 use records::Record;
 use replies::Reply;
 use replies::Text;
+use replies::judge_number;
 ghost use mathlib.Core.Path.{_≡_};
 ghost use Rattle.model.specs.Text.{planText, batchText};
 ghost use Rattle.planner_c.specs.Records.{searchIn};
-ghost use Rattle.planner_c.specs.Calls.{openedRecord, ranRecord, writtenText};
+ghost use Rattle.planner_c.specs.Calls.{openedRecord, ranRecord, writtenText, judgedNumber};
 
 mod calls;
 mod records;
@@ -19,10 +21,10 @@ mod replies;
 // The version of all that C sees here, a number that its name carries too: it rises whenever the record's layout, a number's meaning or a call changes,
 // and who was compiled for another version does not find this name.
 #[no_mangle]
-pub extern "C" fn planner_version_1() -> u32
-    ensures { λ r. ⌜ r ≡ 1 ⌝ }
+pub extern "C" fn planner_version_2() -> u32
+    ensures { λ r. ⌜ r ≡ 2 ⌝ }
 {
-    1
+    2
 }
 
 // Opens a batch file: 0 and the record of its fresh search, or the refusal, 1 to 10, which leaves the record as it was.
@@ -60,4 +62,12 @@ pub extern "C" fn planner_write_batch(state: &Record, buffer: &mut [u8]) -> Text
     ensures { λ r. ⌜ (r, now (buffer .exit)) ≡ writtenText (batchText (searchIn (now (state .entry)))) (now (buffer .entry)) ⌝ }
 {
     batch_text(*state, buffer)
+}
+
+// Judges a plan text beside its batch file: 0 where it passes, or the refusal, 1 to 10 or 17 to 19.
+#[no_mangle]
+pub extern "C" fn planner_judge(file: &[u8], text: &[u8]) -> u8
+    ensures { λ r. ⌜ r ≡ judgedNumber (now (file .entry)) (now (text .entry)) ⌝ }
+{
+    judge_number(planner::judge(file, text))
 }

@@ -1,9 +1,10 @@
 // The answers as C gets them: numbers alone.
 use model::Answer;
+use model::Judgement;
 use model::Opening;
 use model::Written;
 ghost use mathlib.Core.Path.{_≡_};
-ghost use Rattle.planner_c.specs.Replies.{numberOf, replyOf, textOf};
+ghost use Rattle.planner_c.specs.Replies.{numberOf, replyOf, textOf, judgeNumber};
 
 // The answer of a run. `kind` is 0 spent, 1 a plan, 2 no plan, 3 refused; a number that the answer has not is 0.
 #[repr(C)]
@@ -76,5 +77,15 @@ pub fn text_of(answer: Written) -> Text
             length: 0,
             refusal: refusal,
         },
+    }
+}
+
+// 0 where the plan text passes, else the refusal.
+pub fn judge_number(answer: Judgement) -> u8
+    ensures { λ r. ⌜ r ≡ judgeNumber answer ⌝ }
+{
+    match answer {
+        Judgement::Passed => 0,
+        Judgement::Refused(number) => number,
     }
 }

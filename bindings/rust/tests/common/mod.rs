@@ -1,6 +1,5 @@
 //! What the tests share: a batch in plain numbers with its file, a check of plans tick by tick, and random batches from a fixed seed.
 #![allow(dead_code)]
-use planner::Plan;
 use std::collections::HashSet;
 use std::fs;
 use std::path::PathBuf;
@@ -57,8 +56,7 @@ impl Batch {
     }
 
     /// What is wrong with a plan: a delay not kept, a station held twice in a tick, another latency.
-    pub fn fault(&self, plan: &Plan) -> Option<String> {
-        let starts = plan.starts();
+    pub fn fault(&self, starts: &[u16], latency: u16) -> Option<String> {
         if starts.len() != self.jobs.len() {
             return Some(format!("{} starts for {} jobs", starts.len(), self.jobs.len()));
         }
@@ -68,11 +66,11 @@ impl Batch {
             }
         }
         let mut held = HashSet::new();
-        let mut latency = 0;
+        let mut last = 0;
         for (job, masks) in self.jobs.iter().enumerate() {
             for (tick, mask) in masks.iter().enumerate() {
                 let now = usize::from(starts[job]) + tick;
-                latency = latency.max(now + 1);
+                last = last.max(now + 1);
                 for station in (0..16).filter(|station| mask >> station & 1 == 1) {
                     if !held.insert((now, station)) {
                         return Some(format!("station {station} is held twice in tick {now}"));
@@ -80,7 +78,7 @@ impl Batch {
                 }
             }
         }
-        (latency != usize::from(plan.latency())).then(|| format!("the latency is {latency}, not {}", plan.latency()))
+        (last != usize::from(latency)).then(|| format!("the latency is {last}, not {latency}"))
     }
 }
 

@@ -1,0 +1,129 @@
+-- A plan tested by arrays: the delays as they are read, the clashes as they are listed, and starts that stand in 24 places.
+use Prim.Native.Nat.{ℕ, _+_, _≤_, _<_, max}
+use mathlib.Core.Path.{_≡_, refl, ap, ap₂, sym, _∙_}
+use mathlib.Core.Bool.{Bool, true, false, _&&_, not}
+use mathlib.Core.Option.{Option, none, some}
+use mathlib.Core.List.{List, [], _∷_, map, foldr}
+use native.Mathlib.Omega.{arith}
+use lib.ListN.{length, getD}
+use lib.IntN.{ℤ, subℕ}
+use lib.Signed.{leZ}
+use lib.Dec.{leb}
+use borrow.Author.Tests.{leb-true, le-leb}
+use Rattle.model.specs.declared.Batch.{Batch}
+use Rattle.model.specs.declared.Delay.{Delay}
+use Rattle.model.specs.Common.{count, all, isSome}
+use Rattle.model.specs.Batch.{delayOf, delaysOf}
+use Rattle.model.specs.Plan.{start, finish, latency}
+use Rattle.model.specs.Clash.{Clash, clashes}
+use Rattle.model.specs.Search.{met, firstMet}
+use Rattle.model.specs.Format.{Within}
+use Rattle.model.specs.Open.{fewClashes}
+use Rattle.model.specs.Judge.{keeps, valid}
+use Rattle.model.proofs.PlusLaws.{plus-le, le-plus}
+use Rattle.model.proofs.SeqLaws.{listed-cong}
+use Rattle.model.proofs.AllLaws.{allFrom, all-start}
+use Rattle.model.proofs.LimitLaws.{leZ-iff}
+use Rattle.clashes.specs.declared.Clashes.{Clashes}
+use Rattle.clashes.specs.declared.Met.{Met}
+use Rattle.clashes.specs.declared.Met.the-variants as found
+use Rattle.clashes.specs.List.{listOf}
+use Rattle.clashes.specs.First.{Known, metOf, firstCode}
+use Rattle.clashes.proofs.FirstLaws.{first-agree}
+use Rattle.clashes.proofs.ListedLaws.{list-fits, list-known, first-listed}
+use Rattle.starts.specs.declared.delays.Delays.{Delays}
+use Rattle.starts.specs.Code.{Limited, coded}
+use Rattle.starts.specs.Delays.{delaysRead}
+use Rattle.starts.specs.Least.{HoldsDelays}
+use Rattle.starts.proofs.CodeLaws.{plus-coded}
+use Rattle.starts.proofs.SoundLaws.{holds-read}
+use Rattle.opening.proofs.WithinLaws.{within-tabled, within-sound}
+
+-- ---- delays
+
+-- tests that pass together are the same test
+pub same-test : (p q : Bool) → (p ≡ true → q ≡ true) → (q ≡ true → p ≡ true) → p ≡ q
+same-test true q f g = sym (f refl)
+same-test false true f g = g refl
+same-test false false f g = refl
+
+-- a delay is kept, by its weight's code
+kept-code : (t u : ℕ) (w : ℤ) → Limited w → leb (t + coded w) (u + 30000) ≡ leZ w (subℕ u t)
+kept-code t u w h =
+    same-test _ _
+    (λ e. leZ-iff w (subℕ u t) .1 (le-plus w t u (omega (arith, plus-coded t w h, leb-true (t + coded w) (u + 30000) e))))
+    (λ e. le-leb (t + coded w) (u + 30000) (omega (arith, plus-coded t w h, plus-le w t u (leZ-iff w (subℕ u t) .0 e))))
+
+-- a test of a mapped list
+all-map : {A B : Type 0} (f : B → Bool) (g : A → B) (xs : List A) → all f (map g xs) ≡ all (λ x. f (g x)) xs
+unfolding all
+all-map f g [] = refl
+all-map f g (x ∷ xs) = ap (λ (rest : Bool). elim (f (g x)) [ true ↦ rest | false ↦ false ]) (all-map f g xs)
+
+-- the test of delay k, by the arrays
+unfoldable pub keptTest : List ℕ → List ℕ → List ℕ → List ℕ → ℕ → Bool
+keptTest us from to code k = leb (getD us (getD from k 0) 0 + getD code k 0) (getD us (getD to k 0) 0 + 30000)
+
+module _ (b : Batch) (w : Within b) (d : Delays) (e : d ≡ delaysRead b) where
+  held : HoldsDelays b (d .from) (d .to) (d .code)
+  held = let s = within-sound b w in rw e (holds-read b (s .few) (s .jobs) (s .weights))
+
+  -- its jobs have places
+  pub kept-jobs : (k : ℕ) → k < b .m → (getD (d .from) k 0 < 24) × (getD (d .to) k 0 < 24)
+  kept-jobs k h = (omega (arith, held .from k h, held .fromFits k h, w .jobs .1), omega (arith, held .to k h, held .toFits k h, w .jobs .1))
+
+  kept-at : (us : List ℕ) (k : ℕ) → k < b .m → keptTest us (d .from) (d .to) (d .code) k ≡ keeps us (delayOf b k)
+  unfolding keptTest keeps start
+  kept-at us k h = rw (held .from k h, held .to k h, held .code k h) (kept-code _ _ _ (held .weightFits k h))
+
+  -- what the loop has tested is what the definition asks
+  pub kept-all : (us : List ℕ) (m : ℕ) → m ≡ b .m → allFrom (keptTest us (d .from) (d .to) (d .code)) 0 m ≡ all (keeps us) (delaysOf b)
+  unfolding delaysOf
+  kept-all us m p =
+      all-start _ m ∙ ap (λ (n : ℕ). all (keptTest us (d .from) (d .to) (d .code)) (count 0 n)) p
+      ∙ sym (all-map (λ t. t) _ (count 0 (b .m))) ∙ ap (all (λ t. t)) (listed-cong _ _ (b .m) (kept-at us))
+      ∙ all-map (λ t. t) (λ k. keeps us (delayOf b k)) (count 0 (b .m)) ∙ sym (all-map (keeps us) (delayOf b) (count 0 (b .m)))
+
+-- ---- clashes
+
+met-some : (o : Option ℕ) (k : ℕ) → metOf o ≡ found.Clash k → true ≡ isSome o
+unfolding metOf isSome
+met-some none k e = let z : _≡_ {A = ℕ} 0 1 = cc in absurd (omega arith)
+met-some (some j) k e = refl
+
+met-none : (o : Option ℕ) → metOf o ≡ found.Nothing → false ≡ isSome o
+unfolding metOf isSome
+met-none none e = refl
+met-none (some j) e = let z : _≡_ {A = ℕ} 0 1 = cc in absurd (omega arith)
+
+module _ (b : Batch) (w : Within b) (f : fewClashes b ≡ true) (l : Clashes) (e : l ≡ listOf b) where
+  few : length (clashes b) ≤ 1024
+  unfolding fewClashes
+  few = leb-true (length (clashes b)) 1024 f
+
+  -- what the first clash that is met asks of the list
+  pub clashes-fit : (l .count ≤ 1024) × Known (l .codes) (l .count)
+  clashes-fit = (list-fits b l e few, list-known b l e few (within-tabled b w))
+
+  module _ (us : List ℕ) (m : Met) (is : m ≡ firstCode (l .codes) (l .count) us) where
+    told : m ≡ metOf (firstMet (clashes b) us 0)
+    told = is ∙ first-listed b l e few (within-tabled b w) us us (λ i h. refl)
+
+    pub clash-met : (k : ℕ) → m ≡ found.Clash k → true ≡ isSome (firstMet (clashes b) us 0)
+    clash-met k h = met-some _ k (sym told ∙ h)
+
+    pub none-met : m ≡ found.Nothing → false ≡ isSome (firstMet (clashes b) us 0)
+    none-met h = met-none _ (sym told ∙ h)
+
+-- ---- starts that stand elsewhere: the same plan
+
+module _ (b : Batch) (us ts : List ℕ) (agree : (i : ℕ) → start us i ≡ start ts i) where
+  pub valid-agree : valid b us ≡ valid b ts
+  unfolding valid keeps met
+  valid-agree =
+      ap₂ (λ (p q : Bool). p && q) (λ i. all (λ q. leZ (q .weight) (subℕ (agree (q .to) i) (agree (q .from) i))) (delaysOf b))
+      (ap (λ (o : Option ℕ). not (isSome o)) (first-agree (clashes b) us ts 0 (λ c m. rw (agree (c .j), agree (c .i)))))
+
+  pub latency-agree : latency b us ≡ latency b ts
+  unfolding latency
+  latency-agree = λ i. foldr max 0 (map (λ j. finish b j (agree j i)) (count 0 (b .n)))

@@ -1,0 +1,9 @@
+-- `lines_read::broken` is the answer for a refusal.
+use borrow.Author.Needs.{needs}
+use Rattle.judging.specs.Claim.{linesTold}
+use Rattle.judging.proofs.lines_read.broken.Statement.{statement}
+use Rattle.judging.proofs.lines_read.broken.Tie as tie
+
+pub broken-spec : {M : Type 1} → statement M
+unfolding linesTold
+broken-spec = tie.close (tie.spec (λ c. search needs))

@@ -1,0 +1,17 @@
+-- `lines_read::store` meets its contract, by whether there is room.
+use borrow.Author.Needs.{needs}
+use borrow.Author.Tests.{lt-ltb, le-ltb}
+use Rattle.model.specs.Common.{if_then_else_}
+use Rattle.judging.specs.Claim.{stored}
+use Rattle.judging.proofs.lines_read.store.Statement.{statement}
+use Rattle.judging.proofs.lines_read.store.Tie as tie
+
+pub store-spec : {M : Type 1} → statement M
+unfolding stored if_then_else_
+store-spec =
+    tie.close
+    (tie.spec
+    (λ c. search needs)
+    (λ c. search needs)
+    (λ c. rw (lt-ltb _ 24 (c .if1 .taken)))
+    (λ c. rw (le-ltb _ 24 (c .if1 .left))))

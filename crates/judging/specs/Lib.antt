@@ -1,0 +1,2 @@
+-- What the contracts of judging cite: the answers of the functions that read a plan text.
+pub mod Claim

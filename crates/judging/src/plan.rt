@@ -1,0 +1,102 @@
+// Whether starts are a valid plan of a batch, and their latency. A start may be any two bytes, and nothing here wraps.
+use clashes::Met;
+use clashes::first_met;
+use clashes::list_clashes;
+use model::Batch;
+use model::wide;
+use model::wide16;
+use starts::delays::read_delays;
+use starts::delays::ticks_of;
+ghost use mathlib.Core.Path.{_≡_};
+ghost use mathlib.Core.Bool.{true, _&&_};
+ghost use Prim.Native.Nat.{_+_, _≤_, _<_};
+ghost use lib.ListN.{getD};
+ghost use lib.Dec.{leb, eqb};
+ghost use Rattle.model.specs.Common.{all, isSome};
+ghost use Rattle.model.specs.Batch.{delaysOf};
+ghost use Rattle.model.specs.Plan.{latency};
+ghost use Rattle.model.specs.Clash.{clashes};
+ghost use Rattle.model.specs.Search.{firstMet};
+ghost use Rattle.model.specs.Format.{Within};
+ghost use Rattle.model.specs.Open.{fewClashes};
+ghost use Rattle.model.specs.Judge.{keeps, valid};
+
+// t_j - t_i is at least w, as t_i + (w + 30,000) is at most t_j + 30,000.
+fn is_kept(from: u8, to: u8, code: u16, starts: &[u16; 24]) -> bool
+    requires { ⌜ (from < 24) × (to < 24) ⌝ }
+    ensures { λ r. ⌜ r ≡ leb (getD (now (starts .entry)) from 0 + code) (getD (now (starts .entry)) to 0 + 30000) ⌝ }
+{
+    let earlier = starts[wide(from)];
+    let later = starts[wide(to)];
+    wide16(earlier) + wide16(code) <= wide16(later) + 30000
+}
+
+// Each delay is kept.
+fn keeps_delays(batch: Batch, starts: &[u16; 24]) -> bool
+    requires { ⌜ Within batch ⌝ }
+    ensures { λ r. ⌜ r ≡ all (keeps (now (starts .entry))) (delaysOf batch) ⌝ }
+{
+    let m = wide(batch.m);
+    let read = read_delays(batch);
+    let delays = read.delays;
+    let from = delays.from;
+    let to = delays.to;
+    let code = delays.code;
+    let mut k: usize = 0;
+    while k < m {
+        if !is_kept(from[k], to[k], code[k], starts) {
+            return false;
+        }
+        k = k + 1;
+    }
+    true
+}
+
+// Some clash is met.
+fn meets_clash(batch: Batch, starts: &[u16; 24]) -> bool
+    requires { ⌜ Within batch × (fewClashes batch ≡ true) ⌝ }
+    ensures { λ r. ⌜ r ≡ isSome (firstMet (clashes batch) (now (starts .entry)) 0) ⌝ }
+{
+    let list = list_clashes(batch);
+    let codes = list.codes;
+    let met = first_met(&codes, list.count, starts);
+    match met {
+        Met::Clash(_) => true,
+        Met::Nothing => false,
+    }
+}
+
+// The starts keep every delay, and no two jobs hold one station in one tick.
+fn is_valid(batch: Batch, starts: &[u16; 24]) -> bool
+    requires { ⌜ Within batch × (fewClashes batch ≡ true) ⌝ }
+    ensures { λ r. ⌜ r ≡ valid batch (now (starts .entry)) ⌝ }
+{
+    keeps_delays(batch, starts) && !meets_clash(batch, starts)
+}
+
+// The largest t_i + p_i.
+fn latency_of(batch: Batch, starts: &[u16; 24]) -> usize
+    requires { ⌜ batch .n ≤ 24 ⌝ }
+    ensures { λ r. ⌜ r ≡ latency batch (now (starts .entry)) ⌝ }
+{
+    let n = wide(batch.n);
+    let ticks = ticks_of(batch);
+    let mut latest: usize = 0;
+    let mut i: usize = 0;
+    while i < n {
+        let end = wide16(starts[i]) + wide(ticks[i]);
+        if latest < end {
+            latest = end;
+        }
+        i = i + 1;
+    }
+    latest
+}
+
+// The starts are a valid plan, and this is its latency.
+pub fn is_right(batch: Batch, starts: &[u16; 24], claimed: u16) -> bool
+    requires { ⌜ Within batch × (fewClashes batch ≡ true) ⌝ }
+    ensures { λ r. ⌜ r ≡ (valid batch (now (starts .entry)) && eqb (latency batch (now (starts .entry))) claimed) ⌝ }
+{
+    is_valid(batch, starts) && latency_of(batch, starts) == wide16(claimed)
+}

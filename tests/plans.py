@@ -1,0 +1,37 @@
+"""Plans beside their batch: what a batch file says, what is wrong with a plan, and plan texts."""
+from collections import Counter
+
+
+def read_file(data):
+    """Jobs and delays of a batch file, read here once more from its bytes."""
+    frames = [bytes.fromhex(line) for line in data.decode().splitlines()]
+    n = frames[0][2]
+    jobs = [[int.from_bytes(f[k:k + 2], "big") for k in range(2, len(f), 2)] for f in frames[1:1 + n]]
+    delays = [(f[1], f[2], int.from_bytes(f[3:5], "big", signed=True)) for f in frames[1 + n:]]
+    return jobs, delays
+
+
+def latency_of(jobs, starts):
+    return max(start + len(masks) for start, masks in zip(starts, jobs))
+
+
+def faults(jobs, delays, starts, latency):
+    """What is wrong with a plan: delays, stations tick by tick, latency."""
+    found = ["delay %d %d %d" % d for d in delays if starts[d[1]] - starts[d[0]] < d[2]]
+    held = Counter((starts[i] + a, s) for i, masks in enumerate(jobs)
+                   for a, mask in enumerate(masks) for s in range(16) if mask >> s & 1)
+    found += ["tick %d station %d" % key for key, times in held.items() if times > 1]
+    if latency != latency_of(jobs, starts):
+        found.append("latency")
+    return found
+
+
+def plan_text(starts, latency, total):
+    """The plan text of these numbers; of a latency that two bytes do not hold, its last two."""
+    head = "B001%02X%04X%08X\n" % (len(starts), latency & 0xFFFF, total)
+    return (head + "".join("B1%02X%04X\n" % one for one in enumerate(starts))).encode()
+
+
+def starts_of(text):
+    """The starts of a plan text."""
+    return [int(line[4:8], 16) for line in text.decode().splitlines()[1:]]
