@@ -156,7 +156,14 @@ pub fn judge(search: Search, line: &[u8], out: &mut [u8]) -> Done {
 }
 
 // Judges the first bytes of a buffer beside those of another.
-fn judged(search: Search, file: &[u8], count: usize, text: &[u8], size: usize, out: &mut [u8]) -> Done {
+fn judged(
+    search: Search,
+    file: &[u8],
+    count: usize,
+    text: &[u8],
+    size: usize,
+    out: &mut [u8],
+) -> Done {
     if file.len() < count {
         return unknown(search, out);
     }

@@ -29,7 +29,7 @@ use Rattle.model.proofs.FileLaws.{open-read}
 use Rattle.model.proofs.OpenLaws.{open-format}
 use Rattle.model.proofs.JudgeLaws.{jobs-iff, starts-length}
 use Rattle.opening.proofs.Tests.{refuses-bind, refuses-require}
-use Rattle.judging.specs.declared.lines_read.Lines.{Lines}
+use Rattle.judging.specs.declared.job_lines.Lines.{Lines}
 use Rattle.judging.specs.declared.claim.Head.{Head}
 use Rattle.judging.specs.declared.claim.Head.the-variants.{Claims, Broken}
 use Rattle.judging.specs.Claim.{ReadsHead, linesTold}

@@ -14,7 +14,7 @@ use Rattle.judging.specs.declared.claim.Head.{Head}
 use Rattle.judging.specs.declared.claim.Head.the-variants.{Claims, Broken}
 use Rattle.judging.specs.declared.claim.JobLine.{JobLine}
 use Rattle.judging.specs.declared.claim.JobLine.the-variants.{Starts, Broken as NoJob}
-use Rattle.judging.specs.declared.lines_read.Lines.{Lines}
+use Rattle.judging.specs.declared.job_lines.Lines.{Lines}
 
 -- the first line is read, up to a place of the text; or it is refused
 unfoldable pub ReadsHead : List ℕ → Head → Type 0

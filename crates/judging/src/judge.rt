@@ -1,8 +1,8 @@
 // Judging: what the text claims beside the batch of the file, in the order of the refusals.
 use crate::claim::Head;
 use crate::claim::read_head;
-use crate::lines_read::names_jobs;
-use crate::lines_read::read_lines;
+use crate::job_lines::names_jobs;
+use crate::job_lines::read_lines;
 use crate::plan::is_right;
 use model::Batch;
 use model::Judgement;

@@ -59,8 +59,8 @@ head-framing = record { back = back; forth = forth }
         let l : h .1 / 256 * 256 + h .1 % 256 ≡ h .1 = omega arith in
         let t : (h .2 / 65536 / 256 * 256 + h .2 / 65536 % 256) * 65536 + (h .2 % 65536 / 256 * 256 + h .2 % 65536 % 256) ≡ h .2 = omega arith in (
           each-cons IsByte (omega arith) (each-cons IsByte (omega arith) (each-cons IsByte (ok .0)
-          (each-cons IsByte (omega (arith, ok .1)) (each-cons IsByte (omega arith)
-          (each-cons IsByte (omega (arith, ok .2)) (each-cons IsByte (omega arith) (each-cons IsByte (omega arith) (each-cons IsByte (omega arith) (each-nil IsByte))))))))),
+              (each-cons IsByte (omega (arith, ok .1)) (each-cons IsByte (omega arith)
+              (each-cons IsByte (omega (arith, ok .2)) (each-cons IsByte (omega arith) (each-cons IsByte (omega arith) (each-cons IsByte (omega arith) (each-nil IsByte))))))))),
           ap₂ (λ (x y : ℕ). accept (h .0, x, y)) l t,
         )
 

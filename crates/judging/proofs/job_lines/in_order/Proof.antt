@@ -1,7 +1,7 @@
--- `lines_read::in_order` asks the number only while the jobs are in order.
+-- `job_lines::in_order` asks the number only while the jobs are in order.
 use borrow.Author.Needs.{needs}
-use Rattle.judging.proofs.lines_read.in_order.Statement.{statement}
-use Rattle.judging.proofs.lines_read.in_order.Tie as tie
+use Rattle.judging.proofs.job_lines.in_order.Statement.{statement}
+use Rattle.judging.proofs.job_lines.in_order.Tie as tie
 
 pub in-order-spec : {M : Type 1} → statement M
 in-order-spec =

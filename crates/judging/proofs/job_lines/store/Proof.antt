@@ -1,10 +1,10 @@
--- `lines_read::store` meets its contract, by whether there is room.
+-- `job_lines::store` meets its contract, by whether there is room.
 use borrow.Author.Needs.{needs}
 use borrow.Author.Tests.{lt-ltb, le-ltb}
 use Rattle.model.specs.Common.{if_then_else_}
 use Rattle.judging.specs.Claim.{stored}
-use Rattle.judging.proofs.lines_read.store.Statement.{statement}
-use Rattle.judging.proofs.lines_read.store.Tie as tie
+use Rattle.judging.proofs.job_lines.store.Statement.{statement}
+use Rattle.judging.proofs.job_lines.store.Tie as tie
 
 pub store-spec : {M : Type 1} → statement M
 unfolding stored if_then_else_

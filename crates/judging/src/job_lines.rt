@@ -47,6 +47,7 @@ fn store(starts: &mut [u16; 24], k: usize, start: u16)
     }
 }
 
+// All lines of a text from a place on.
 pub fn read_lines(text: &[u8], at: usize) -> Lines
     requires { ⌜ at ≤ length (now text) ⌝ }
     ensures { λ r. ⌜ r ≡ linesTold (readLines (drop at (now (text .entry)))) ⌝ }

@@ -1,8 +1,8 @@
--- `lines_read::broken` is the answer for a refusal.
+-- `job_lines::broken` is the answer for a refusal.
 use borrow.Author.Needs.{needs}
 use Rattle.judging.specs.Claim.{linesTold}
-use Rattle.judging.proofs.lines_read.broken.Statement.{statement}
-use Rattle.judging.proofs.lines_read.broken.Tie as tie
+use Rattle.judging.proofs.job_lines.broken.Statement.{statement}
+use Rattle.judging.proofs.job_lines.broken.Tie as tie
 
 pub broken-spec : {M : Type 1} → statement M
 unfolding linesTold

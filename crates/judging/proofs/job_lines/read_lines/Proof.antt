@@ -1,4 +1,4 @@
--- `lines_read::read_lines` reads one line a turn, so that what is still to be read, behind the lines so far, stays what the whole reading gives.
+-- `job_lines::read_lines` reads one line a turn, so that what is still to be read, behind the lines so far, stays what the whole reading gives.
 use Prim.Native.Nat.{_-_}
 use native.Mathlib.Omega.{arith}
 use mathlib.Core.Path.{_∙_}
@@ -6,8 +6,8 @@ use lib.ListN.{length}
 use borrow.Author.Needs.{needs}
 use Rattle.judging.proofs.ReadLaws.{told-job, told-no-job}
 use Rattle.judging.proofs.LinesLaws.{ReadTo, read-start, read-more, read-stop, read-all}
-use Rattle.judging.proofs.lines_read.read_lines.Statement.{statement}
-use Rattle.judging.proofs.lines_read.read_lines.Tie as tie
+use Rattle.judging.proofs.job_lines.read_lines.Statement.{statement}
+use Rattle.judging.proofs.job_lines.read_lines.Tie as tie
 
 abbrev Inv-loop : tie.InvT-loop
 Inv-loop text at starts₀ ordered₀ place₀ k₀ starts ordered place k = ReadTo text at place k ordered starts
