@@ -32,8 +32,8 @@ extern "C" {
 
 /* ---- the version */
 
-/* It rises whenever the record's layout, a number's meaning or a call changes. A program compiled with this header
- * links only with an archive of the same version: with gcc and clang every file that includes the header refers to
+/* It rises whenever the record's layout, a number's meaning or a call changes, and when a call is added. A program
+ * compiled with this header links only with an archive of the same version: with gcc and clang every file that includes the header refers to
  * planner_version_2, a name that no archive of another version has. With another compiler, or with --gc-sections
  * and a gcc before 11 or a clang before 13, call planner_version_2() somewhere in the program; it answers
  * PLANNER_VERSION.
@@ -165,7 +165,7 @@ typedef struct planner_text {
 #define PLANNER_REFUSAL_UNENDED 15   /* a plan text is wanted of a search that has not ended */
 #define PLANNER_REFUSAL_BUFFER 16    /* the text is longer than the buffer */
 #define PLANNER_REFUSAL_FORM 17      /* the plan text is not one B0 line with 01 and then only B1 lines, each of its length */
-#define PLANNER_REFUSAL_JOBS 18      /* the plan text's n is not the batch's, or its job lines are not jobs 0 to n - 1 in order */
+#define PLANNER_REFUSAL_ORDER 18     /* the plan text's n is not the batch's, or its job lines are not jobs 0 to n - 1 in order */
 #define PLANNER_REFUSAL_INVALID 19   /* the plan is not valid, or its latency is wrong */
 
 /* ---- the calls */
@@ -202,11 +202,12 @@ planner_text planner_write_plan(const planner_record *record, uint8_t *buffer, s
 planner_text planner_write_batch(const planner_record *record, uint8_t *buffer, size_t capacity);
 
 /* Judges a plan text of `text_length` bytes with the batch file that it is for, of `file_length` bytes.
- * Answers 0: the file opens, the text is in form, its starts are a valid plan of the file's batch, and its latency is
- * theirs. Starts may be up to 65535; neither the total nor whether the plan is the shortest is judged.
+ * Answers 0: the file opens, the text is in form and names the batch's jobs in order, its starts are a valid plan,
+ * and its latency is theirs. Neither the total nor whether the plan is the shortest is judged. A start may be later
+ * than PLANNER_START, but a plan whose latency does not fit two bytes does not pass.
  * Answers 1 to 10: the file is refused, as by planner_open.
- * Answers 17 to 19: the text is refused. Asked in this order, after the file: PLANNER_REFUSAL_FORM, of the whole text,
- * _JOBS, _INVALID.
+ * Answers 17 to 19: the text is refused. Asked in this order, after the file: PLANNER_REFUSAL_FORM of the whole
+ * text, _ORDER, _INVALID.
  * Neither is written to; they may overlap or be the same memory.
  */
 uint8_t planner_judge(const uint8_t *file, size_t file_length, const uint8_t *text, size_t text_length);

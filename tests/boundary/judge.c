@@ -1,4 +1,4 @@
-/* Judging: each of its answers provoked and compared with its name, texts of every length up to 1 MB, files and texts that share memory, and that
+/* Judging: each of its answers provoked and compared with its name, a text cut at every length, and texts of 1 MB, files and texts that share memory, and that
  * all memory stays. */
 #include "check.h"
 #include <string.h>
@@ -65,14 +65,14 @@ static void check_form(void) {
 
 static void check_jobs(void) {
     begin("18: another n, and job lines that are not jobs 0 to n - 1 in order; 17 is asked before");
-    same(PLANNER_REFUSAL_JOBS, 18);
-    same(judged(C3, "B00101000300000003\nB1000001\nB1010000\n"), PLANNER_REFUSAL_JOBS);
-    same(judged(C3, "B00103000300000003\nB1000001\nB1010000\n"), PLANNER_REFUSAL_JOBS);
-    same(judged(C3, "B00102000300000003\n"), PLANNER_REFUSAL_JOBS);
-    same(judged(C3, "B00102000300000003\nB1000001\n"), PLANNER_REFUSAL_JOBS);
-    same(judged(C3, "B00102000300000003\nB1010000\nB1000001\n"), PLANNER_REFUSAL_JOBS);
-    same(judged(C3, "B00102000300000003\nB1000001\nB1000001\nB1010000\n"), PLANNER_REFUSAL_JOBS);
-    same(judged(C3, "B00102000300000003\nB1000001\nB1010000\nB1020000\n"), PLANNER_REFUSAL_JOBS);
+    same(PLANNER_REFUSAL_ORDER, 18);
+    same(judged(C3, "B00101000300000003\nB1000001\nB1010000\n"), PLANNER_REFUSAL_ORDER);
+    same(judged(C3, "B00103000300000003\nB1000001\nB1010000\n"), PLANNER_REFUSAL_ORDER);
+    same(judged(C3, "B00102000300000003\n"), PLANNER_REFUSAL_ORDER);
+    same(judged(C3, "B00102000300000003\nB1000001\n"), PLANNER_REFUSAL_ORDER);
+    same(judged(C3, "B00102000300000003\nB1010000\nB1000001\n"), PLANNER_REFUSAL_ORDER);
+    same(judged(C3, "B00102000300000003\nB1000001\nB1000001\nB1010000\n"), PLANNER_REFUSAL_ORDER);
+    same(judged(C3, "B00102000300000003\nB1000001\nB1010000\nB1020000\n"), PLANNER_REFUSAL_ORDER);
     same(judged(C3, "B00102000300000003\nB1010000\nB1000001\nB2\n"), PLANNER_REFUSAL_FORM);
 }
 
@@ -86,7 +86,7 @@ static void check_invalid(void) {
     same(judged(C3, "B00102000400000003\nB1000001\nB1010000\n"), PLANNER_REFUSAL_INVALID);
     same(judged(C2, "B00101000000000001\nB100FFFF\n"), PLANNER_REFUSAL_INVALID);
     same(judged(SIXTEEN, "B00101000F00000001\nB100FFFF\n"), PLANNER_REFUSAL_INVALID);
-    same(judged(C3, "B00102000300000003\nB1010000\nB1000000\n"), PLANNER_REFUSAL_JOBS);
+    same(judged(C3, "B00102000300000003\nB1010000\nB1000000\n"), PLANNER_REFUSAL_ORDER);
     same(judged(C3, "B00102000300000003\nB1000000\nB1010000"), PLANNER_REFUSAL_FORM);
 }
 
@@ -131,7 +131,7 @@ static void check_lengths(void) {
         same(planner_judge(file, length, text, 0), due);
     }
     for (length = 0; length < all; length++) {
-        due = length > 0 && C3_PLAN[length - 1] == '\n' ? PLANNER_REFUSAL_JOBS : PLANNER_REFUSAL_FORM;
+        due = length > 0 && C3_PLAN[length - 1] == '\n' ? PLANNER_REFUSAL_ORDER : PLANNER_REFUSAL_FORM;
         same(planner_judge(file, whole, text, length), due);
     }
     same(planner_judge(file, whole, text, all), 0);
@@ -146,7 +146,7 @@ static void check_large(void) {
     for (k = 0; k < LINES; k++)
         memcpy(large + HEAD + LINE * k, C3_PLAN + HEAD + LINE * (k % 2), LINE);
     memcpy(before, large, sizeof large);
-    same(planner_judge(file, strlen(C3), large, sizeof large), PLANNER_REFUSAL_JOBS);
+    same(planner_judge(file, strlen(C3), large, sizeof large), PLANNER_REFUSAL_ORDER);
     same(planner_judge(file, strlen(C3), large, sizeof large - 1), PLANNER_REFUSAL_FORM);
     same_bytes(large, before, sizeof large);
     for (k = 1; k <= LINE; k++) {
@@ -170,7 +170,7 @@ static void check_shared(void) {
     same(planner_judge(file, strlen(C3), file, strlen(C3)), PLANNER_REFUSAL_FORM);
     same(planner_judge(bytes, ends, bytes, ends), PLANNER_REFUSAL_FORM);
     same(planner_judge(bytes, ends, bytes + begins, strlen(memory) - begins), 0);
-    same(planner_judge(bytes, ends, bytes + begins, ends - begins), PLANNER_REFUSAL_JOBS);
+    same(planner_judge(bytes, ends, bytes + begins, ends - begins), PLANNER_REFUSAL_ORDER);
     same(planner_judge(bytes, ends, bytes, strlen(memory)), PLANNER_REFUSAL_FORM);
     same(planner_judge(bytes, strlen(memory), bytes + begins, strlen(memory) - begins), PLANNER_REFUSAL_EXTRA);
 }

@@ -184,7 +184,7 @@ static void check_judged(void) {
     bytes[0] = judging_takes(text, small, 0);
     for (k = 0; k < LARGE; k++)
         large[k] = text[k < small ? k : 19 + (k - 19) % 9];
-    bytes[1] = judging_takes(large, LARGE, PLANNER_REFUSAL_JOBS);
+    bytes[1] = judging_takes(large, LARGE, PLANNER_REFUSAL_ORDER);
     large[LARGE - 2] = 'G';
     bytes[2] = judging_takes(large, LARGE, PLANNER_REFUSAL_FORM);
     text[9]++;

@@ -40,7 +40,7 @@ pub use batch::{Delay, Job};
 pub use refusal::Refusal;
 use std::fmt;
 
-/// The version of the library that this crate calls. It rises whenever the record's layout, a number's meaning or a call changes.
+/// The version of the library that this crate calls. It rises whenever the record's layout, a number's meaning or a call changes, and when a call is added.
 pub const VERSION: u32 = 2;
 /// The most jobs of a batch.
 pub const JOBS: usize = 24;
@@ -272,8 +272,9 @@ impl fmt::Debug for Search {
     }
 }
 
-/// Judges a plan text, wherever it comes from, beside the batch file that it is for. It passes exactly where the file opens, the text is in form,
-/// its starts are a valid plan of the file's batch, and its latency is theirs. Neither the total nor whether the plan is the shortest is judged.
+/// Judges a plan text, wherever it comes from, beside the batch file that it is for. It passes exactly where the file opens, the text is in form and
+/// names the batch's jobs in order, its starts are a valid plan, and its latency is theirs. Neither the total nor whether the plan is the shortest is
+/// judged. The plan text of a [`Search`] that has ended with a plan passes with its file.
 ///
 /// ```
 /// use planner::{judge, Refusal};
@@ -289,7 +290,7 @@ impl fmt::Debug for Search {
 /// # Errors
 ///
 /// First the file's refusals 1 to 10, as [`Search::open`] gives them; then, in this order, 17 [`Form`](Refusal::Form), asked of the whole text,
-/// 18 [`Jobs`](Refusal::Jobs) and 19 [`Invalid`](Refusal::Invalid).
+/// 18 [`Order`](Refusal::Order) and 19 [`Invalid`](Refusal::Invalid).
 pub fn judge(file: &[u8], text: &[u8]) -> Result<(), Refusal> {
     assert_version();
     // SAFETY: each pointer is valid for its length and not null, also where the slice is empty; both are only read.

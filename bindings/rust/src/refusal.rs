@@ -48,7 +48,7 @@ refusals! {
     15 Unended "a plan text is wanted of a search that has not ended"
     16 Buffer "the text is longer than the buffer"
     17 Form "the plan text is not one B0 line with 01 and then only B1 lines, each of its length"
-    18 Jobs "the plan text's n is not the batch's, or its job lines are not jobs 0 to n - 1 in order"
+    18 Order "the plan text's n is not the batch's, or its job lines are not jobs 0 to n - 1 in order"
     19 Invalid "the plan is not valid, or its latency is wrong"
 }
 

@@ -33,7 +33,7 @@ fn due(batch: &Batch, text: &[u8]) -> Result<(), Refusal> {
         return Err(Refusal::Form);
     }
     if usize::from(head[2]) != batch.jobs.len() || !jobs.iter().map(|line| line[1]).eq(0..head[2]) {
-        return Err(Refusal::Jobs);
+        return Err(Refusal::Order);
     }
     let starts: Vec<u16> = jobs.iter().map(|line| u16::from_be_bytes([line[2], line[3]])).collect();
     batch.fault(&starts, u16::from_be_bytes([head[3], head[4]])).map_or(Ok(()), |_| Err(Refusal::Invalid))
@@ -74,10 +74,10 @@ fn refusals() {
         (b"b00102000300000003\nb1000001\nb1010000\n", Refusal::Form, 17),
         (b"B00202000300000003\nB1000001\nB1010000\n", Refusal::Form, 17),
         (b"B00102000300000003\nB1010000\nB1000001\nB2\n", Refusal::Form, 17),
-        (b"B00101000300000003\nB1000001\nB1010000\n", Refusal::Jobs, 18),
-        (b"B00102000300000003\n", Refusal::Jobs, 18),
-        (b"B00102000300000003\nB1010000\nB1000001\n", Refusal::Jobs, 18),
-        (b"B00102000900000003\nB1000001\nB1010000\nB1020000\n", Refusal::Jobs, 18),
+        (b"B00101000300000003\nB1000001\nB1010000\n", Refusal::Order, 18),
+        (b"B00102000300000003\n", Refusal::Order, 18),
+        (b"B00102000300000003\nB1010000\nB1000001\n", Refusal::Order, 18),
+        (b"B00102000900000003\nB1000001\nB1010000\nB1020000\n", Refusal::Order, 18),
         (b"B00102000300000003\nB1000000\nB1010000\n", Refusal::Invalid, 19),
         (b"B00102000200000003\nB1000001\nB1010000\n", Refusal::Invalid, 19),
         (b"B00102000400000003\nB1000001\nB1010000\n", Refusal::Invalid, 19),
@@ -139,7 +139,7 @@ fn random_starts() {
         let starts: Vec<u16> = batch.jobs.iter().map(|_| (base + random.below(spread)) as u16).collect();
         let last = starts.iter().zip(&batch.jobs).map(|(start, masks)| usize::from(*start) + masks.len()).max().unwrap();
         let latency = (last as u16).wrapping_add([0, 0, 0, 1, 65535][random.below(5) as usize]); // nothing else may wrap
-        let text = text_of(&starts, latency, random.below(1 << 32) as u32);
+        let text = text_of(&starts, latency, (random.below(1 << 16) << 16 | random.below(1 << 16)) as u32);
         let valid = batch.fault(&starts, latency).is_none();
         assert_eq!(judge(&batch.file(), &text), if valid { Ok(()) } else { Err(Refusal::Invalid) }, "{starts:?} {latency} {batch:?}");
         *seen.entry(valid).or_insert(0) += 1;

@@ -139,7 +139,7 @@ fn written(search: Search, letter: u8, buffer: &mut [u8]) -> Written {
     }
 }
 
-// Judges the second file of a line, a plan text, beside the first.
+// Judges the second file of a line, a plan text, beside the first. The byte before its blank stands where a letter would.
 pub fn judge(search: Search, line: &[u8], out: &mut [u8]) -> Done {
     let blank = blank_from(line, 2);
     if line.len() <= blank {

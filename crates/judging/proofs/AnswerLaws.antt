@@ -23,16 +23,16 @@ use Rattle.model.specs.Judge.{Claim, jobsIn, startsIn, claimHead, readLines, re
 use Rattle.model.proofs.BoolLaws.{apart, both, and, passes, fails}
 use Rattle.model.proofs.ListLaws.{count-length}
 use Rattle.model.proofs.SeqLaws.{pad-at}
-use Rattle.model.proofs.OutcomeLaws.{accepts-bind, accepts-require}
+use Rattle.model.proofs.OutcomeLaws.{accepts-bind}
 use Rattle.model.proofs.StartsLaws.{same-eq}
 use Rattle.model.proofs.FileLaws.{open-read}
 use Rattle.model.proofs.OpenLaws.{open-format}
 use Rattle.model.proofs.JudgeLaws.{jobs-iff, starts-length}
-use Rattle.opening.proofs.Tests.{refuses-bind, refuses-require}
 use Rattle.judging.specs.declared.job_lines.Lines.{Lines}
 use Rattle.judging.specs.declared.claim.Head.{Head}
-use Rattle.judging.specs.declared.claim.Head.the-variants.{Claims, Broken}
-use Rattle.judging.specs.Claim.{ReadsHead, linesTold}
+use Rattle.judging.specs.declared.claim.Head.the-variants.{Read, Broken}
+use Rattle.judging.specs.Claim.{ReadsHead}
+use Rattle.judging.specs.JobLines.{linesTold}
 use Rattle.judging.proofs.PlanLaws.{same-test, valid-agree, latency-agree}
 
 -- ---- the lines
@@ -68,7 +68,7 @@ module _ (b : Batch) (within : Within b) (text : List ℕ) (h : Head) (read : Re
   unfolding judgedAs judgeText readClaim as17 _>>=_ ReadsHead
   no-head e = let (k, z) = subst (ReadsHead text) e read in rw z
 
-  module _ (n l next : ℕ) (is : h ≡ Claims n l next) (lines : Lines) (told : lines ≡ linesTold (readLines (drop next text))) where
+  module _ (n l next : ℕ) (is : h ≡ Read n l next) (lines : Lines) (told : lines ≡ linesTold (readLines (drop next text))) where
     found : (total : ℕ) × (readOne claimHead text ≡ accept ((n, l, total), drop next text))
     unfolding ReadsHead
     found = let (inside, total, e) = subst (ReadsHead text) is read in (total, e)

@@ -21,7 +21,7 @@ use Rattle.model.proofs.SeqLaws.{count-snoc, map-snoc, pad-put}
 use Rattle.model.proofs.ClaimLaws.{lines-none, lines-stop, lines-more}
 use Rattle.opening.proofs.Tests.{refuses-bind}
 use Rattle.judging.specs.declared.job_lines.Lines.{Lines}
-use Rattle.judging.specs.Claim.{stored, linesTold}
+use Rattle.judging.specs.JobLines.{stored, linesTold}
 
 and-true : (a : Bool) → (a && true) ≡ a
 and-true true = refl

@@ -11,7 +11,6 @@ use lib.Signed.{leZ}
 use lib.Dec.{leb}
 use borrow.Author.Tests.{leb-true, le-leb}
 use Rattle.model.specs.declared.Batch.{Batch}
-use Rattle.model.specs.declared.Delay.{Delay}
 use Rattle.model.specs.Common.{count, all, isSome}
 use Rattle.model.specs.Batch.{delayOf, delaysOf}
 use Rattle.model.specs.Plan.{start, finish, latency}
@@ -20,9 +19,10 @@ use Rattle.model.specs.Search.{met, firstMet}
 use Rattle.model.specs.Format.{Within}
 use Rattle.model.specs.Open.{fewClashes}
 use Rattle.model.specs.Judge.{keeps, valid}
+use Rattle.model.proofs.BoolLaws.{passes, fails}
 use Rattle.model.proofs.PlusLaws.{plus-le, le-plus}
 use Rattle.model.proofs.SeqLaws.{listed-cong}
-use Rattle.model.proofs.AllLaws.{allFrom, all-start}
+use Rattle.model.proofs.AllLaws.{allFrom, all-start, all-passed, all-failed}
 use Rattle.model.proofs.LimitLaws.{leZ-iff}
 use Rattle.clashes.specs.declared.Clashes.{Clashes}
 use Rattle.clashes.specs.declared.Met.{Met}
@@ -63,6 +63,14 @@ all-map f g (x ∷ xs) = ap (λ (rest : Bool). elim (f (g x)) [ true ↦ rest | 
 -- the test of delay k, by the arrays
 unfoldable pub keptTest : List ℕ → List ℕ → List ℕ → List ℕ → ℕ → Bool
 keptTest us from to code k = leb (getD us (getD from k 0) 0 + getD code k 0) (getD us (getD to k 0) 0 + 30000)
+
+-- a test of every number below m, of which k is asked: t is the answer
+module _ (f : ℕ → Bool) (k m : ℕ) (r : Bool) (left : allFrom f k m ≡ r) (h : k < m) (t : Bool) (told : t ≡ f k) where
+  pub test-more : not t ≡ false → allFrom f (k + 1) m ≡ r
+  test-more e = all-passed f k m r left h (passes told e)
+
+  pub test-not : not t ≡ true → false ≡ r
+  test-not e = all-failed f k m r left h (fails told e)
 
 module _ (b : Batch) (w : Within b) (d : Delays) (e : d ≡ delaysRead b) where
   held : HoldsDelays b (d .from) (d .to) (d .code)

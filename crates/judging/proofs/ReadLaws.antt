@@ -20,7 +20,7 @@ use Rattle.opening.proofs.Tests.{refuses-require}
 use Rattle.opening.proofs.Bytes.{frame-size, framed-inside}
 use Rattle.opening.proofs.One.{one-refused, one-read}
 use Rattle.judging.specs.declared.claim.Head.{Head}
-use Rattle.judging.specs.declared.claim.Head.the-variants.{Claims, Broken}
+use Rattle.judging.specs.declared.claim.Head.the-variants.{Read, Broken}
 use Rattle.judging.specs.declared.claim.JobLine.{JobLine}
 use Rattle.judging.specs.declared.claim.JobLine.the-variants.{Starts, Broken as NoJob}
 use Rattle.judging.specs.Claim.{ReadsHead, ReadsJob}
@@ -64,7 +64,7 @@ module _ {text : List ℕ} {end : ℕ} (f : Framed text 0 end) (size : ℕ) (siz
           (17, one-refused claimHead text 0 f size sized-so 17 (refuses-require 17 _ (ap (λ (t : Bool). frameIs 0xB0 9 frame && t) (ap (λ (x : ℕ). eqb x 1) (sym is) ∙ ne-eqb v 1 h) ∙ and-false (frameIs 0xB0 9 frame))))
 
       -- it is read
-      pub head-read : v ≡ 1 → (n latency : ℕ) → n ≡ byteOf frame 2 → latency ≡ wideOf frame 3 → ReadsHead text (Claims n latency (end + 1))
+      pub head-read : v ≡ 1 → (n latency : ℕ) → n ≡ byteOf frame 2 → latency ≡ wideOf frame 3 → ReadsHead text (Read n latency (end + 1))
       unfolding ReadsHead claimHead
       head-read one n latency p q =
           let total = wideOf frame 5 * 65536 + wideOf frame 7 in (
@@ -104,6 +104,6 @@ unfolding ReadsJob
 told-no-job text at r h e = subst (ReadsJob text at) e h
 
 -- the place behind the first line
-pub told-place : (text : List ℕ) (r : Head) (n latency next : ℕ) → ReadsHead text r → r ≡ Claims n latency next → next ≤ length text
+pub told-place : (text : List ℕ) (r : Head) (n latency next : ℕ) → ReadsHead text r → r ≡ Read n latency next → next ≤ length text
 unfolding ReadsHead
 told-place text r n latency next h e = subst (ReadsHead text) e h .0

@@ -8,9 +8,9 @@ ghost use Prim.Native.Nat.{_≤_};
 ghost use lib.ListN.{length};
 ghost use Rattle.judging.specs.Claim.{ReadsHead, ReadsJob};
 
-// n, the latency and the place behind the line; or no B0 line with 01.
+// n, the latency and the place behind the line; or no B0 line with 01. The total is not judged, and not read.
 pub enum Head {
-    Claims(u8, u16, usize),
+    Read(u8, u16, usize),
     Broken,
 }
 
@@ -37,7 +37,7 @@ pub fn read_head(text: &[u8]) -> Head
     }
     let n = frame_byte(text, 0, size, 2);
     let latency = frame_wide(text, 0, size, 3);
-    Head::Claims(n, latency, end + 1)
+    Head::Read(n, latency, end + 1)
 }
 
 // The line at a place.

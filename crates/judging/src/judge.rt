@@ -20,7 +20,7 @@ fn judge_text(batch: Batch, text: &[u8]) -> Judgement
     ensures { λ r. ⌜ r ≡ judgedAs (judgeText batch (now (text .entry))) ⌝ }
 {
     let head = read_head(text);
-    let Head::Claims(n, latency, place) = head else {
+    let Head::Read(n, latency, place) = head else {
         return Judgement::Refused(17);
     };
     let lines = read_lines(text, place);

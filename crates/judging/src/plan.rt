@@ -26,9 +26,9 @@ fn is_kept(from: u8, to: u8, code: u16, starts: &[u16; 24]) -> bool
     requires { ⌜ (from < 24) × (to < 24) ⌝ }
     ensures { λ r. ⌜ r ≡ leb (getD (now (starts .entry)) from 0 + code) (getD (now (starts .entry)) to 0 + 30000) ⌝ }
 {
-    let earlier = starts[wide(from)];
-    let later = starts[wide(to)];
-    wide16(earlier) + wide16(code) <= wide16(later) + 30000
+    let start_from = starts[wide(from)];
+    let start_to = starts[wide(to)];
+    wide16(start_from) + wide16(code) <= wide16(start_to) + 30000
 }
 
 // Each delay is kept.

@@ -14,12 +14,11 @@ use borrow.Author.Tests.{leb-true, eqb-true, eq-eqb}
 use Rattle.model.specs.declared.Batch.{Batch}
 use Rattle.model.specs.declared.Best.{Best}
 use Rattle.model.specs.declared.Best.the-variants.{Nothing, Latency}
-use Rattle.model.specs.declared.Delay.{Delay}
 use Rattle.model.specs.declared.Search.{Search}
 use Rattle.model.specs.Common.{count, all, joined, isSome, Outcome, refuse, accept, _>>=_, require}
 use Rattle.model.specs.Limits.{mostLatency, mostTotal}
 use Rattle.model.specs.Batch.{ticks, delaysOf}
-use Rattle.model.specs.Plan.{start, Keeps, KeepsDelays, KeepsStations, Valid, finish, latency}
+use Rattle.model.specs.Plan.{start, Keeps, KeepsDelays, Valid, finish, latency}
 use Rattle.model.specs.Clash.{Clash, clashes}
 use Rattle.model.specs.Starts.{same}
 use Rattle.model.specs.Search.{noClash, met, firstMet, freshSearch}

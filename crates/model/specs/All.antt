@@ -1,4 +1,4 @@
--- One name that unfolds every definition of 01, for the theorems that compute with them.
+-- One name that unfolds every definition, for the theorems that compute with them.
 use Rattle.model.specs.Common.{if_then_else_, between, eqZ, count, all, any, keep, upTo, pad, joined, isEmpty, isSome, _>>=_, require, given}
 use Rattle.model.specs.Batch.{blankJob, blankDelay, jobOf, ticks, mask, bit, delayOf, delaysOf}
 use Rattle.model.specs.Plan.{start, Keeps, Holds, KeepsDelays, KeepsStations, finish, latency}

@@ -1,4 +1,4 @@
--- 01's number and values for each case of the enum answers: a refusal is its number, and what is accepted has the values that 01 names.
+-- The number and values that 01, and 02 for judging, give each case of the enum answers: a refusal is its number, and what is accepted has its values.
 use Prim.Native.Nat.{ℕ}
 use mathlib.Core.Bool.{Bool, true, false}
 use mathlib.Core.Option.{Option, none, some}

@@ -3,7 +3,7 @@
 use Prim.Native.Nat.{ℕ, _+_, _*_, _<_}
 use mathlib.Core.Path.{_≡_}
 use mathlib.Core.Bool.{Bool, _&&_, not}
-use mathlib.Core.List.{List, [], _∷_, _++_, List·Memᴰ, map}
+use mathlib.Core.List.{List, _∷_, _++_, List·Memᴰ, map}
 use lib.ListN.{length}
 use lib.IntN.{subℕ}
 use lib.Signed.{leZ}
@@ -23,7 +23,8 @@ use Rattle.model.specs.Line.{line, two, four}
 use Rattle.model.specs.Open.{at, wide, frameIs, readOne, readAll, openFile}
 use Rattle.model.specs.Text.{planLines}
 
--- ---- a right plan text for a batch: that of a valid plan with its latency and some total, latency and total fitting their bytes
+-- ---- a right plan text for a batch: that of a valid plan, with its latency and some total. These fit their bytes, and so do the starts, none of which passes
+-- the latency
 
 pub record RightText (b : Batch) (text : List ℕ) : Type 0 where
   pub starts : List ℕ
@@ -52,7 +53,7 @@ unfoldable pub claimText : Claim → List ℕ
 claimText c =
     line (0xB0 ∷ 0x01 ∷ c .n ∷ (two (c .latency) ++ four (c .total))) ++ joined (λ q. line (0xB1 ∷ q .0 ∷ two (q .1))) (c .lines)
 
--- of their lengths: each number fits its bytes
+-- of their lengths: each number fits its bytes, so that every line is two digits a byte
 pub record Claims (text : List ℕ) (c : Claim) : Type 0 where
   pub is : text ≡ claimText c
   pub n-fits : c .n < 256

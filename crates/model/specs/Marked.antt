@@ -153,19 +153,21 @@ planRows =
     ∷ judging c3 (fileOf "B00102001600000000 B1000000 B1010013") (accept tt)
     -- the file's own refusals come first
     ∷ judging "A0010202 A1010001 A1010002 A200010001 A201000000" [] (refuse 10)
-    -- 17: nothing, no plan, edition 02, an empty line, no 0A at the end; and before 18, in the last line too
+    -- 17: nothing, no plan, edition 02, an empty line, no 0A at the end, two B0 lines; and before 18, in the last line too
     ∷ judging c3 [] (refuse 17)
     ∷ judging c3 (fileOf "B200000003") (refuse 17)
     ∷ judging c3 (fileOf "B00202000300000003 B1000001 B1010000") (refuse 17)
     ∷ judging c3 (fileOf "B00102000300000003 B1000001 B1010000 ") (refuse 17)
     ∷ judging c3 (characters "B00102000300000003 B1000001 B1010000") (refuse 17)
+    ∷ judging c3 (fileOf "B00102000300000003 B00102000300000003 B1000001 B1010000") (refuse 17)
     ∷ judging c3 (fileOf "B00103000300000003 B1010001 B101") (refuse 17)
-    -- 18: another n, a job missing, one too many, out of order; and before 19
+    -- 18: no job, another n, a job missing, one too many, out of order; and before 19
+    ∷ judging c3 (fileOf "B00102000300000003") (refuse 18)
     ∷ judging c3 (fileOf "B00103000300000003 B1000001 B1010000") (refuse 18)
     ∷ judging c3 (fileOf "B00102000300000003 B1000001") (refuse 18)
     ∷ judging c3 (fileOf "B00102000300000003 B1000001 B1010000 B1020000") (refuse 18)
     ∷ judging c3 (fileOf "B00102000000000003 B1010000 B1000001") (refuse 18)
-    -- 19: one station held twice, a latency one off, a delay kept by all but one tick
+    -- 19: one station held twice, a latency one off, a start one tick too early for a delay
     ∷ judging c3 (fileOf "B00102000300000003 B1000000 B1010000") (refuse 19)
     ∷ judging c3 (fileOf "B00102000400000003 B1000001 B1010000") (refuse 19)
     ∷ judging "A0010202 A1010001 A1010002 A200010001 A20100FFFF" (fileOf "B00102000100000001 B1000000 B1010000") (refuse 19)

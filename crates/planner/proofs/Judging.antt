@@ -1,10 +1,10 @@
 -- Request Q-1 of the public calls: what the contracts say of the results makes them the definitions' results, of which model's laws show it. Then it is pinned:
 -- no two answers meet `Judging`, and the finished plan is there to pass.
-use Prim.Native.Nat.{ℕ, _<_}
+use Prim.Native.Nat.{ℕ, _≤_, _<_}
 use mathlib.Core.Path.{_≡_, refl, ap, sym, _∙_, subst}
 use mathlib.Core.Bool.{Bool, true, false}
 use mathlib.Core.Option.{some}
-use mathlib.Core.List.{List, _++_}
+use mathlib.Core.List.{List}
 use native.Mathlib.Omega.{arith}
 use native.Mathlib.Decide.{decLt}
 use lib.ListN.{length, take, drop}
@@ -19,7 +19,7 @@ use Rattle.model.specs.Common.{Outcome, refuse, accept}
 use Rattle.model.specs.Search.{freshSearch}
 use Rattle.model.specs.Format.{BatchFile}
 use Rattle.model.specs.Open.{openFile, openedAs, opened}
-use Rattle.model.specs.Text.{planLines, planText, fitting, writtenAs, written}
+use Rattle.model.specs.Text.{planLines, planText, written}
 use Rattle.model.specs.Answers.{openTold, writeTold, judgeTold, bestTold}
 use Rattle.model.specs.Calls.{Call, after}
 use Rattle.model.specs.Demands.{WritingLeaves}
@@ -29,7 +29,6 @@ use Rattle.model.proofs.OutcomeLaws.{refused, accept-eq}
 use Rattle.model.proofs.OpenLaws.{open-format, opens, yields}
 use Rattle.model.proofs.ClaimLaws.{claim-iff}
 use Rattle.model.proofs.JudgeLaws.{jobs-iff, plan-iff, judge-refused, judge-form, judge-jobs, judge-plan, judge-passes, judge-right, plan-right}
-use Rattle.planner.specs.Demands.{Called}
 use Rattle.planner.specs.Judging.{Judging, Q1}
 use Rattle.planner.proofs.Demands.{called-after, writing, demands}
 use Rattle.planner.proofs.Pins.{called-there, every-plan-told}
@@ -133,19 +132,23 @@ judge-one (Refused k) (Refused k′) e = let z : k ≡ k′ = cc in ap Refused z
 pub judging-pinned : (file text : List ℕ) (j j′ : Judgement) → Judging file (opened file) text j → Judging file (opened file) text j′ → j ≡ j′
 judging-pinned file text j j′ h h′ = judge-one j j′ (judging-one file text j h ∙ sym (judging-one file text j′ h′))
 
+-- and what is passed is right
+pub passed-right : (file : List ℕ) (o : Opened) (text : List ℕ) (j : Judgement) → Judging file o text j → judgeTold j ≡ accept tt → (b : Batch) × BatchFile file b × RightText b text
+passed-right file o text j h = h .passes .0
+
 module _ (q : Q1) where
   -- for every file and text
   pub every-judging : (file text : List ℕ) → Judging file (opened file) text (judged file text)
   every-judging file text = q .judging file text (opened file) (judged file text) refl refl
 
-  -- an ended search with a best has a plan text, which is written into a buffer just as long, and passes
+  -- an ended search with a best has a plan text, which is written into every buffer that it fits, and passes
   pub every-finished :
       (file : List ℕ) (b : Batch) → BatchFile file b → (cs : List Call) → let s = after (opened file .search) cs in
-      s .ended ≡ true → (l : ℕ) → bestTold (s .best) ≡ some l → judgeTold (judged file (planLines (s .best) (b .n) (s .starts) (s .total))) ≡ accept tt
-  every-finished file b f cs ended l best =
+      s .ended ≡ true → (l : ℕ) → bestTold (s .best) ≡ some l → let text = planLines (s .best) (b .n) (s .starts) (s .total) in
+      (buffer : List ℕ) → length text ≤ length buffer → let x = written (planText s) buffer in
+      (writeTold (x .0) ≡ accept (length text)) × (judgeTold (judged file (take (length text) (x .1))) ≡ accept tt)
+  every-finished file b f cs ended l best buffer room =
       let s = after (opened file .search) cs in
-      let text = planLines (s .best) (b .n) (s .starts) (s .total) in
-      let x = written (planText s) text in
-      let r = every-plan-told demands file b f cs ended text (omega arith) in
-      ap (λ (bytes : List ℕ). judgeTold (judged file bytes)) (sym (ap (take (length text)) (r .1) ∙ take-at text (drop (length text) text) (length text) refl))
-      ∙ q .finished file (opened file) refl (opens file .1 (b, f)) cs s (called-there (opened file .search) cs) l best text (x .0) (x .1) refl (length text) (r .0) _ refl
+      let x = written (planText s) buffer in
+      let told = every-plan-told demands file b f cs ended buffer room .0 in
+      (told, q .finished file (opened file) refl (opens file .1 (b, f)) cs s (called-there (opened file .search) cs) l best buffer (x .0) (x .1) refl _ told _ refl)

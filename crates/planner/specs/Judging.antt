@@ -22,7 +22,7 @@ use Rattle.planner.specs.Demands.{Called}
 
 -- j is the answer for a file, which opening answered with o, and a text
 pub record Judging (file : List ℕ) (o : Opened) (text : List ℕ) (j : Judgement) : Type 0 where
-  -- it accepts exactly the plan texts whose starts form a valid plan and whose latency is right
+  -- it accepts exactly the plan texts whose starts form a valid plan and whose latency is right; total and shortness are not judged
   pub passes : (judgeTold j ≡ accept tt) ↔ ((b : Batch) × BatchFile file b × RightText b text)
   -- it refuses, after the batch's own refusals and in this order:
   pub first : (k : ℕ) → openTold (o .answer) ≡ refuse k → judgeTold j ≡ refuse k

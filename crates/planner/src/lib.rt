@@ -1,4 +1,4 @@
-// The planner's public calls. None asks anything of its caller: whatever is wrong with what it is given is refused, by 01's number.
+// The planner's public calls. None asks anything of its caller: whatever is wrong with what it is given is refused, by the number that 01 or 02 gives it.
 use model::Judgement;
 use model::Opened;
 use model::Ran;
@@ -39,7 +39,8 @@ pub fn write_batch(search: Search, buffer: &mut [u8]) -> Written
     writing::write_batch(search, buffer)
 }
 
-// Judges a plan text beside its batch file: passed where it is a valid plan with its latency, or a refusal: the file's own, 1 to 10, or 17, 18 or 19.
+// Judges a plan text beside its batch file: passed where its lines name the batch's jobs in order, its starts are a valid plan and its latency is theirs; or a
+// refusal, the file's own, 1 to 10, or 17, 18 or 19.
 pub fn judge(file: &[u8], text: &[u8]) -> Judgement
     ensures { λ r. ⌜ r ≡ judged (now (file .entry)) (now (text .entry)) ⌝ }
 {

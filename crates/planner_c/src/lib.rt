@@ -1,6 +1,6 @@
 // The planner's calls for C: the caller keeps the record, plain numbers only, and lends it with its buffers. None asks anything of its caller
-// beyond valid memory. Each copies the record and makes the call by value; opening and running store what it yields. Judging needs no record, and
-// the version stands apart.
+// beyond valid memory. Each that takes a record copies it and makes the call by value; opening and running store what it yields. Judging takes none,
+// and the version stands apart.
 use calls::batch_text;
 use calls::open_record;
 use calls::plan_text;
@@ -18,8 +18,8 @@ mod calls;
 mod records;
 mod replies;
 
-// The version of all that C sees here, a number that its name carries too: it rises whenever the record's layout, a number's meaning or a call changes,
-// and who was compiled for another version does not find this name.
+// The version of all that C sees here, a number that its name carries too: it rises whenever the record's layout, a number's meaning or a call changes
+// and when a call is added, and who was compiled for another version does not find this name.
 #[no_mangle]
 pub extern "C" fn planner_version_2() -> u32
     ensures { λ r. ⌜ r ≡ 2 ⌝ }

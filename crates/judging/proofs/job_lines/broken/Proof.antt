@@ -1,6 +1,6 @@
 -- `job_lines::broken` is the answer for a refusal.
 use borrow.Author.Needs.{needs}
-use Rattle.judging.specs.Claim.{linesTold}
+use Rattle.judging.specs.JobLines.{linesTold}
 use Rattle.judging.proofs.job_lines.broken.Statement.{statement}
 use Rattle.judging.proofs.job_lines.broken.Tie as tie
 

@@ -2,7 +2,7 @@
 use borrow.Author.Needs.{needs}
 use borrow.Author.Tests.{lt-ltb, le-ltb}
 use Rattle.model.specs.Common.{if_then_else_}
-use Rattle.judging.specs.Claim.{stored}
+use Rattle.judging.specs.JobLines.{stored}
 use Rattle.judging.proofs.job_lines.store.Statement.{statement}
 use Rattle.judging.proofs.job_lines.store.Tie as tie
 

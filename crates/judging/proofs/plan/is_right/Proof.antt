@@ -1,6 +1,5 @@
 -- `plan::is_right` asks the latency only of a valid plan.
 use mathlib.Core.Path.{ap₂, _∙_}
-use Prim.Native.Nat.{ℕ}
 use lib.Dec.{eqb}
 use borrow.Author.Needs.{needs}
 use Rattle.model.proofs.BoolLaws.{and-then, and-else}

@@ -1,7 +1,6 @@
 -- `plan::is_valid` asks the clashes only where the delays are kept.
 use mathlib.Core.Path.{ap, _∙_}
 use mathlib.Core.Bool.{not}
-use borrow.Author.Needs.{needs}
 use Rattle.model.specs.Judge.{valid}
 use Rattle.model.proofs.BoolLaws.{and-then, and-else}
 use Rattle.judging.proofs.plan.is_valid.Statement.{statement}

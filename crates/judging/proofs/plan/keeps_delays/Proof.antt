@@ -3,11 +3,10 @@ use Prim.Native.Nat.{_-_}
 use mathlib.Core.Path.{_≡_, refl, _∙_}
 use native.Mathlib.Omega.{arith}
 use borrow.Author.Needs.{needs}
-use Rattle.model.proofs.BoolLaws.{passes, fails}
-use Rattle.model.proofs.AllLaws.{allFrom, all-passed, all-failed, all-ended}
+use Rattle.model.proofs.AllLaws.{allFrom, all-ended}
 use Rattle.starts.proofs.SoundLaws.{sound-read}
 use Rattle.opening.proofs.WithinLaws.{within-sound}
-use Rattle.judging.proofs.PlanLaws.{keptTest, kept-jobs, kept-all}
+use Rattle.judging.proofs.PlanLaws.{keptTest, test-more, test-not, kept-jobs, kept-all}
 use Rattle.judging.proofs.plan.keeps_delays.Statement.{statement}
 use Rattle.judging.proofs.plan.keeps_delays.Tie as tie
 
@@ -38,11 +37,11 @@ keeps-delays-spec =
     let turn = c .before .before in
     let read = turn .before .before .before .before .before .before in
     let within = read .before .before .pre in
-    all-failed _ _ _ _ (turn .before .loop .inv) (turn .loop-test .taken) (fails (c .before .is-kept .ensures) (c .if1 .taken))
+    test-not _ _ _ _ (turn .before .loop .inv) (turn .loop-test .taken) _ (c .before .is-kept .ensures) (c .if1 .taken)
     ∙ kept-all _ within _ (sound-read _ (within-sound _ within) _ (read .read-delays .ensures)) _ _ (read .before .wide .ensures .0))
     (λ c. search needs)
     (λ c. search needs)
-    (λ c. let turn = c .before .before in all-passed _ _ _ _ (turn .before .loop .inv) (turn .loop-test .taken) (passes (c .before .is-kept .ensures) (c .if1 .left)))
+    (λ c. let turn = c .before .before in test-more _ _ _ _ (turn .before .loop .inv) (turn .loop-test .taken) _ (c .before .is-kept .ensures) (c .if1 .left))
     -- each is kept
     (λ c.
     let read = c .before .before .before .before .before .before in
