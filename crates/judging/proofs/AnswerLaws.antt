@@ -20,7 +20,7 @@ use Rattle.model.specs.Search.{searchOf, freshSearch}
 use Rattle.model.specs.Format.{Within}
 use Rattle.model.specs.Open.{fewClashes, readOne, openFile, openedAs, opened}
 use Rattle.model.specs.Judge.{Claim, jobsIn, startsIn, claimHead, readLines, readClaim, as17, jobsRight, valid, planRight, judgeText, judge, judgedAs, judged}
-use Rattle.model.proofs.BoolLaws.{apart, both, and, passes, fails}
+use Rattle.model.proofs.BoolLaws.{apart, both, and, same-test, passes, fails}
 use Rattle.model.proofs.ListLaws.{count-length}
 use Rattle.model.proofs.SeqLaws.{pad-at}
 use Rattle.model.proofs.OutcomeLaws.{accepts-bind}
@@ -33,7 +33,7 @@ use Rattle.judging.specs.declared.claim.Head.{Head}
 use Rattle.judging.specs.declared.claim.Head.the-variants.{Read, Broken}
 use Rattle.judging.specs.Claim.{ReadsHead}
 use Rattle.judging.specs.JobLines.{linesTold}
-use Rattle.judging.proofs.PlanLaws.{same-test, valid-agree, latency-agree}
+use Rattle.judging.proofs.PlanLaws.{valid-agree, latency-agree}
 
 -- ---- the lines
 

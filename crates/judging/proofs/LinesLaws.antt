@@ -15,6 +15,7 @@ use Rattle.model.specs.Limits.{mostJobs}
 use Rattle.model.specs.Starts.{same}
 use Rattle.model.specs.Open.{readOne}
 use Rattle.model.specs.Judge.{claimLine, readLines}
+use Rattle.model.proofs.BoolLaws.{and-true, and-assoc}
 use Rattle.model.proofs.OutcomeLaws.{accepts-bind}
 use Rattle.model.proofs.ListLaws.{count-length}
 use Rattle.model.proofs.SeqLaws.{count-snoc, map-snoc, pad-put}
@@ -22,14 +23,6 @@ use Rattle.model.proofs.ClaimLaws.{lines-none, lines-stop, lines-more}
 use Rattle.opening.proofs.Tests.{refuses-bind}
 use Rattle.judging.specs.declared.job_lines.Lines.{Lines}
 use Rattle.judging.specs.JobLines.{stored, linesTold}
-
-and-true : (a : Bool) → (a && true) ≡ a
-and-true true = refl
-and-true false = refl
-
-and-assoc : (a b c : Bool) → (a && (b && c)) ≡ (a && b && c)
-and-assoc true b c = refl
-and-assoc false b c = refl
 
 -- lists that are the same, and one more item each
 same-snoc : (xs ys : List ℕ) (x y : ℕ) → length xs ≡ length ys → same (xs ++ (x ∷ [])) (ys ++ (y ∷ [])) ≡ (same xs ys && eqb x y)

@@ -19,7 +19,7 @@ use Rattle.model.specs.Search.{met, firstMet}
 use Rattle.model.specs.Format.{Within}
 use Rattle.model.specs.Open.{fewClashes}
 use Rattle.model.specs.Judge.{keeps, valid}
-use Rattle.model.proofs.BoolLaws.{passes, fails}
+use Rattle.model.proofs.BoolLaws.{same-test, passes, fails}
 use Rattle.model.proofs.PlusLaws.{plus-le, le-plus}
 use Rattle.model.proofs.SeqLaws.{listed-cong}
 use Rattle.model.proofs.AllLaws.{allFrom, all-start, all-passed, all-failed}
@@ -40,12 +40,6 @@ use Rattle.starts.proofs.SoundLaws.{holds-read}
 use Rattle.opening.proofs.WithinLaws.{within-tabled, within-sound}
 
 -- ---- delays
-
--- tests that pass together are the same test
-pub same-test : (p q : Bool) → (p ≡ true → q ≡ true) → (q ≡ true → p ≡ true) → p ≡ q
-same-test true q f g = sym (f refl)
-same-test false true f g = g refl
-same-test false false f g = refl
 
 -- a delay is kept, by its weight's code
 kept-code : (t u : ℕ) (w : ℤ) → Limited w → leb (t + coded w) (u + 30000) ≡ leZ w (subℕ u t)

@@ -31,6 +31,21 @@ pub decide : (p : Bool) → (p ≡ true → ⊥) → p ≡ false
 decide true h = absurd (h refl)
 decide false h = refl
 
+-- tests that pass together are the same test
+pub same-test : (p q : Bool) → (p ≡ true → q ≡ true) → (q ≡ true → p ≡ true) → p ≡ q
+same-test true q f g = sym (f refl)
+same-test false true f g = g refl
+same-test false false f g = refl
+
+-- the second test passes, and the first decides
+pub and-true : (a : Bool) → (a && true) ≡ a
+and-true true = refl
+and-true false = refl
+
+pub and-assoc : (a b c : Bool) → (a && (b && c)) ≡ (a && b && c)
+and-assoc true b c = refl
+and-assoc false b c = refl
+
 -- the second test fails, and so does the whole
 pub and-false : (a : Bool) → (a && false) ≡ false
 and-false true = refl

@@ -110,7 +110,7 @@ jobsRight b c = eqb (c .n) (b .n) && same (jobsIn c) (count 0 (b .n))
 unfoldable pub keeps : List ℕ → Delay → Bool
 keeps ts q = leZ (q .weight) (subℕ (start ts (q .to)) (start ts (q .from)))
 
--- each delay is kept, and no clash is met
+-- each delay is kept, and no clash is met; model/proofs/JudgeLaws: plan-iff says that this is validity by ticks and stations
 unfoldable pub valid : Batch → List ℕ → Bool
 valid b ts = all (keeps ts) (delaysOf b) && not (isSome (firstMet (clashes b) ts 0))
 

@@ -8,7 +8,7 @@ use native.Mathlib.Omega.{arith}
 use lib.ListN.{length, getD, drop}
 use lib.Seq.{drop-cons, drop-nil}
 use borrow.Author.Tests.{not-true, not-false}
-use Rattle.model.proofs.BoolLaws.{and-false}
+use Rattle.model.proofs.BoolLaws.{and-true, and-false}
 use Rattle.model.specs.declared.Turn.{Turn}
 use Rattle.model.specs.Common.{all}
 use Rattle.model.specs.Search.{isTurn}
@@ -28,10 +28,6 @@ module _ (path : List Turn) (k : ℕ) (d t : Turn) (x seen r : Bool) (l : length
   rest-failed q =
       let n : not (isTurn t) ≡ false = sym p ∙ not-true x q in
       sym (and-false seen) ∙ (rw (drop-cons path k d (omega arith), ← at, n, all) at e)
-
-and-true : (b : Bool) → (b && true) ≡ b
-and-true true = refl
-and-true false = refl
 
 drop-past : {A : Type 0} (l : List A) (k : ℕ) → length l ≤ k → drop k l ≡ []
 drop-past [] k h = drop-nil k
