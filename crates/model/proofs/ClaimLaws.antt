@@ -30,6 +30,7 @@ four-back a b c d ha hb hc hd =
     let low : ((a * 256 + b) * 65536 + (c * 256 + d)) % 65536 ≡ c * 256 + d = omega arith in
     rw (high, low) (ap₂ (λ (x y : List ℕ). x ++ y) (two-back a b ha hb) (two-back c d hc hd))
 
+-- n, latency and total in their bytes
 abbrev HeadOk : ℕ × ℕ × ℕ → Type 0
 HeadOk h = (h .0 < 256) × (h .1 < 65536) × (h .2 < 4294967296)
 
@@ -37,6 +38,7 @@ HeadOk h = (h .0 < 256) × (h .1 < 65536) × (h .2 < 4294967296)
 abbrev headBody : ℕ × ℕ × ℕ → List ℕ
 headBody h = 0x01 ∷ h .0 ∷ (two (h .1) ++ four (h .2))
 
+-- the B0 line both ways
 head-framing : Framing claimHead 0xB0 headBody (λ h. h) HeadOk
 unfolding claimHead frameIs at wide require _>>=_ count two four
 head-framing = record { back = back; forth = forth }
@@ -66,6 +68,7 @@ head-framing = record { back = back; forth = forth }
 
 -- ---- a B1 line
 
+-- job and start in their bytes
 abbrev LineOk : ℕ × ℕ → Type 0
 LineOk q = (q .0 < 256) × (q .1 < 65536)
 
@@ -73,6 +76,7 @@ LineOk q = (q .0 < 256) × (q .1 < 65536)
 abbrev lineBody : ℕ × ℕ → List ℕ
 lineBody q = q .0 ∷ two (q .1)
 
+-- a B1 line both ways
 line-framing : Framing claimLine 0xB1 lineBody (λ q. q) LineOk
 unfolding claimLine frameIs at wide require _>>=_ count two
 line-framing = record { back = back; forth = forth }
@@ -157,6 +161,7 @@ lines-more cs rest q e =
     go (refuse k) = refl
     go (accept p) = ends-too (isEmpty (p .1)) (p .0)
 
+-- lines that were read are the ones that are written, and the other way
 lines-back : (cs : List ℕ) (qs : List (ℕ × ℕ)) → readLines cs ≡ accept qs → (joined (text 0xB1 lineBody) qs ≡ cs) × ((q : ℕ × ℕ) → List·Memᴰ q qs → LineOk q)
 unfolding readLines
 lines-back cs qs e =
@@ -176,6 +181,7 @@ lines-forth qs h =
 
 -- ---- a whole text
 
+-- a text is read as a claim exactly when it is that claim's
 pub claim-iff : (cs : List ℕ) (c : Claim) → (readClaim cs ≡ accept c) ↔ Claims cs c
 unfolding readClaim claimText
 claim-iff cs c = (back, forth)

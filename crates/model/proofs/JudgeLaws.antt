@@ -103,12 +103,13 @@ module _ (file : List ℕ) (b : Batch) (f : BatchFile file b) (c : Claim) (jobs 
 
 -- ---- each answer, and when it is given
 
--- 17 is given exactly where nothing is read
+-- where nothing is read, 17 is given
 as17-refused : {A : Type 0} (o : Outcome A) → ((a : A) → ¬ (o ≡ accept a)) → as17 o ≡ refuse 17
 unfolding as17
 as17-refused (refuse k) h = refl
 as17-refused (accept a) h = absurd (h a refl)
 
+-- and what is read is read without it
 as17-accepts : {A : Type 0} (o : Outcome A) (a : A) → as17 o ≡ accept a → o ≡ accept a
 unfolding as17
 as17-accepts (refuse k) a e = refused e
@@ -120,6 +121,7 @@ require-true k true e = refl
 require-true k false e = refused e
 
 module _ (file text : List ℕ) where
+  -- the batch's own refusals come first
   pub judge-refused : (k : ℕ) → openFile file ≡ refuse k → judge file text ≡ refuse k
   unfolding judge _>>=_
   judge-refused k e = rw e
@@ -130,6 +132,7 @@ module _ (file text : List ℕ) where
     unfolding judge
     opens = accepts-bind _ (open-format file b .1 f)
 
+    -- then a text that claims nothing
     pub judge-form : ((c : Claim) → ¬ Claims text c) → judge file text ≡ refuse 17
     unfolding judgeText _>>=_
     judge-form h = opens ∙ rw (as17-refused (readClaim text) (λ c e. h c (claim-iff text c .0 e)))
@@ -139,14 +142,17 @@ module _ (file text : List ℕ) where
       unfolding judgeText as17
       reads = opens ∙ accepts-bind _ (ap as17 (claim-iff text c .1 said))
 
+      -- then other jobs than the batch's
       pub judge-jobs : ¬ RightJobs b c → judge file text ≡ refuse 18
       unfolding require _>>=_
       judge-jobs h = reads ∙ rw (decide (jobsRight b c) (λ e. h (jobs-iff b c .0 e)))
 
+      -- then a plan that is not valid, or another latency
       pub judge-plan : RightJobs b c → ¬ RightPlan b c → judge file text ≡ refuse 19
       unfolding require _>>=_
       judge-plan j h = reads ∙ rw (jobs-iff b c .1 j, decide (planRight b c) (λ e. h (plan-iff file b f c j .0 e)))
 
+      -- and no refusal is left
       pub judge-passes : RightJobs b c → RightPlan b c → judge file text ≡ accept tt
       unfolding require _>>=_
       judge-passes j h = reads ∙ rw (jobs-iff b c .1 j, plan-iff file b f c j .1 h)
