@@ -11,11 +11,15 @@ use Rattle.model.specs.Common.{pad}
 use Rattle.model.specs.Clash.{clashes}
 use Rattle.model.specs.Search.{Place, empty, placeOf, searchOf, nodesOn, nodes}
 use Rattle.model.specs.Sound.{sound}
+use Rattle.model.proofs.SoundLaws.{record-passes}
+use Rattle.starts.specs.Rounds.{Small}
+use Rattle.starts.specs.Latency.{longestOf}
 use Rattle.soundness.specs.declared.Examined.{Examined}
 use Rattle.soundness.specs.Examined.{Prepared}
 use Rattle.search.specs.declared.node.Walk.{Walk}
 use Rattle.search.specs.Walk.{turnsIn, placeAt}
 use Rattle.search.specs.Kit.{Works}
+use Rattle.search.proofs.WorksLaws.{passing-ticks}
 use Rattle.search.proofs.RecordLaws.{record-back, path-held, place-held, place-is-sound}
 
 -- the record of a place, once its path is put together
@@ -33,13 +37,18 @@ module _ (s : Search) (x : Examined) (e : sound s ≡ true) (o : s .ended ≡ fa
       ap (λ (q : Bool). placeAt (x .turns) (record { depth = x .depth; best = s .best; starts = s .starts; ended = q })) (sym o)
       ∙ place-held s e (x .turns) (x .depth) (p .path .whole) (p .path .each)
 
-  pub first-works : (n m : ℕ) → n ≡ s .batch .n → m ≡ s .batch .m → Works (s .batch) (record { jobs = n; delays = m; clashes = x .clashes .count }) (x .delays .from) (x .delays .to) (x .delays .code) (x .ticks) (x .clashes .codes) (x .turns) first
-  first-works n m h g =
+  -- what the longest job is found from
+  pub first-ticks : Small (x .ticks) 16
+  first-ticks = rw (p .ticks) (passing-ticks (s .batch) (record-passes s e))
+
+  pub first-works : (n m most : ℕ) → n ≡ s .batch .n → m ≡ s .batch .m → most ≡ longestOf (x .ticks) → Works (s .batch) (record { jobs = n; delays = m; clashes = x .clashes .count; longest = most }) (x .delays .from) (x .delays .to) (x .delays .code) (x .ticks) (x .clashes .codes) (x .turns) first
+  first-works n m most h g k =
       record {
         jobs = h;
         few = g;
         delays = p .delays;
         each-ticks = p .ticks;
+        longest = k;
         listed = p .clashes;
         path = path-held s e (x .turns) (x .depth) (p .path .whole) (p .path .each) l;
         is-sound = ap (λ (q : Place). sound (searchOf (s .batch) 0 q)) place-first ∙ place-is-sound s e;

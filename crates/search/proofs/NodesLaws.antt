@@ -86,6 +86,7 @@ module _ (sizes : Sizes) (from to code ticks codes : List ℕ) where
               few = w .few;
               delays = w .delays;
               each-ticks = w .each-ticks;
+              longest = w .longest;
               listed = w .listed;
               path = n .1;
               is-sound =

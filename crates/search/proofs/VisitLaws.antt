@@ -9,13 +9,14 @@ use native.Mathlib.Numerals.{add-one}
 use lib.ListN.{length, getD, set}
 use lib.Seq.{getD-set-same}
 use Rattle.model.specs.declared.Batch.{Batch}
+use Rattle.model.specs.declared.Delay.{Delay}
 use Rattle.model.specs.declared.Turn.{Turn}
 use Rattle.model.specs.declared.Best.the-variants.{Nothing, Latency}
-use Rattle.model.specs.Common.{if_then_else_, pad}
-use Rattle.model.specs.Batch.{ticks}
+use Rattle.model.specs.Common.{if_then_else_, isSome, pad}
 use Rattle.model.specs.Plan.{latency}
 use Rattle.model.specs.Clash.{clashes}
-use Rattle.model.specs.Search.{Place, startsAt, firstMet, back, prunes, becomeBest, branch, visit, next}
+use Rattle.model.specs.Starts.{rounds, firstStarts, leastStarts}
+use Rattle.model.specs.Search.{Place, inequalities, startsAt, firstMet, back, prunes, becomeBest, branch, visit, next}
 use Rattle.model.proofs.BoolLaws.{apart}
 use Rattle.model.proofs.SeqLaws.{pad-at}
 use Rattle.model.proofs.GoodLaws.{good-room}
@@ -27,36 +28,15 @@ use Rattle.clashes.specs.declared.Met.the-variants as seen
 use Rattle.clashes.specs.First.{Known, metOf, firstCode}
 use Rattle.clashes.proofs.ListedLaws.{list-fits, list-known, first-listed}
 use Rattle.starts.specs.declared.Least.{Least}
-use Rattle.starts.specs.Rounds.{Small}
-use Rattle.starts.specs.Latency.{latencyOf, TicksFit}
-use Rattle.starts.specs.Delays.{ticksRead}
 use Rattle.starts.specs.Least.{leastOf, leastAs}
-use Rattle.starts.proofs.FillLaws.{small-more}
-use Rattle.starts.proofs.LeastLaws.{least-bound}
-use Rattle.starts.proofs.LatencyLaws.{ticks-fit, latency-padded}
+use Rattle.starts.proofs.Law.{found-some, found-none}
 use Rattle.search.specs.declared.node.Walk.{Walk}
 use Rattle.search.specs.declared.node.Sizes.{Sizes}
 use Rattle.search.specs.Walk.{turnOf, turnsIn, incumbent, placeAt}
 use Rattle.search.specs.Kit.{Works}
 use Rattle.search.proofs.BackLaws.{turns-more, turns-set}
 use Rattle.search.proofs.PathLaws.{turns-length}
-use Rattle.search.proofs.WorksLaws.{passes, good, counts, tables, few, list, least-asks, least-tells}
-
--- what is found is the definition's least starts
-pub record Found (o : Option (List ℕ)) (starts : List ℕ) : Type 0 where
-  pub ss : List ℕ
-  pub is : o ≡ some ss
-  pub held : starts ≡ pad 24 0 ss
-
-found-some : (o : Option (List ℕ)) (r : Least) → r ≡ leastAs o → r .found ≡ true → Found o (r .starts)
-unfolding leastAs
-found-some none r e h = apart (sym (ap (λ (l : Least). l .found) e) ∙ h)
-found-some (some ss) r e h = record { ss = ss; is = refl; held = ap (λ (l : Least). l .starts) e }
-
-found-none : (o : Option (List ℕ)) (r : Least) → r ≡ leastAs o → r .found ≡ false → o ≡ none
-unfolding leastAs
-found-none none r e h = refl
-found-none (some ss) r e h = apart (sym h ∙ ap (λ (l : Least). l .found) e)
+use Rattle.search.proofs.WorksLaws.{passes, good, tables, few, list, least-tells}
 
 met-none : (o : Option ℕ) → metOf o ≡ seen.Nothing → o ≡ none
 unfolding metOf
@@ -81,22 +61,19 @@ module _ (b : Batch) (sizes : Sizes) (from to code ticks codes turns : List ℕ)
   abbrev ts : List Turn
   ts = turnsIn turns (walk .depth)
 
-  module _ (least : Least) (e : least ≡ leastOf (sizes .jobs) (sizes .delays) from to code codes turns (walk .depth)) where
-    abbrev told : least ≡ leastAs (startsAt (clashes b) b ts)
+  -- the path's inequalities, and the starts after their last round
+  abbrev qs : List Delay
+  qs = inequalities (clashes b) b ts
+
+  abbrev ss : List ℕ
+  ss = rounds qs (firstStarts (b .n)) (b .n)
+
+  module _ (least : Least) (e : least ≡ leastOf (sizes .jobs) (sizes .delays) from to code ticks codes turns (walk .depth)) where
+    told : least ≡ record { starts = pad 24 0 ss; latency = latency b ss; found = isSome (leastStarts (b .n) qs) }
+    unfolding leastAs
     told = least-tells b sizes from to code ticks codes turns walk w least e
 
-    -- ---- what latency_of and first_met ask
-
-    pub latency-asks : (sizes .jobs ≤ 24) × TicksFit ticks (least .starts) (sizes .jobs)
-    latency-asks =
-        let a = least-asks b sizes from to code ticks codes turns walk w in
-        let n = counts b sizes from to code ticks codes turns walk w in
-        let small : Small (least .starts) 23000 = subst (λ (l : Least). Small (l .starts) 23000) (sym e) (least-bound (sizes .jobs) (sizes .delays) from to code codes turns (walk .depth) (a .0 .0) (a .1 .0)) in (
-          a .0 .0,
-          subst (TicksFit ticks (least .starts)) (sym (w .jobs))
-              (subst (λ (l : List ℕ). TicksFit l (least .starts) (b .n)) (sym (w .each-ticks))
-              (ticks-fit b (n .1) (least .starts) (fits b (passes b sizes from to code ticks codes turns walk w) .short) (small-more (least .starts) 23000 24000 (omega arith) small))),
-        )
+    -- ---- what first_met asks
 
     pub met-asks : (sizes .clashes ≤ 1024) × Known codes (sizes .clashes)
     met-asks =
@@ -107,35 +84,38 @@ module _ (b : Batch) (sizes : Sizes) (from to code ticks codes turns : List ℕ)
     -- ---- no least starts
 
     pub visit-none : (q : Place) → least .found ≡ false → q ≡ back ts (incumbent (walk .best) (walk .starts)) → q ≡ next (clashes b) b (placeAt turns walk)
-    unfolding next visit placeAt
-    visit-none q h g = g ∙ sym (ap (visit (clashes b) b (placeAt turns walk)) (found-none _ least told h))
+    unfolding next visit placeAt startsAt
+    visit-none q h g = g ∙ sym (ap (visit (clashes b) b (placeAt turns walk)) (found-none (b .n) qs (sym (ap (λ (l : Least). l .found) told) ∙ h)))
 
     -- ---- least starts, at or above best or not
 
     module _ (h : least .found ≡ true) where
-      abbrev ss : Found (startsAt (clashes b) b ts) (least .starts)
-      ss = found-some _ least told h
+      -- these are the least starts, and this is their latency
+      is : startsAt (clashes b) b ts ≡ some ss
+      unfolding startsAt
+      is = found-some (b .n) qs (sym (ap (λ (l : Least). l .found) told) ∙ h)
 
-      latency-tells : (l : ℕ) → l ≡ latencyOf ticks (least .starts) (sizes .jobs) → l ≡ latency b (ss .ss)
-      latency-tells l g =
-          g ∙ ap (latencyOf ticks (least .starts)) (w .jobs) ∙ ap (λ (x : List ℕ). latencyOf x (least .starts) (b .n)) (w .each-ticks)
-          ∙ ap (λ (x : List ℕ). latencyOf (ticksRead b) x (b .n)) (ss .held) ∙ latency-padded b (counts b sizes from to code ticks codes turns walk w .1) (ss .ss)
+      held : least .starts ≡ pad 24 0 ss
+      held = ap (λ (l : Least). l .starts) told
 
-      met-tells : (m : Met) → m ≡ firstCode codes (sizes .clashes) (least .starts) → m ≡ metOf (firstMet (clashes b) (ss .ss) 0)
+      latency-tells : least .latency ≡ latency b ss
+      latency-tells = ap (λ (l : Least). l .latency) told
+
+      met-tells : (m : Met) → m ≡ firstCode codes (sizes .clashes) (least .starts) → m ≡ metOf (firstMet (clashes b) ss 0)
       met-tells m g =
           g ∙ first-listed b (list b sizes from to code ticks codes turns walk w) (w .listed) (few b sizes from to code ticks codes turns walk w) (tables b sizes from to code ticks codes turns walk w)
-          (least .starts) (ss .ss) (λ i p. ap (λ (x : List ℕ). getD x i 0) (ss .held) ∙ pad-at 24 0 (ss .ss) i)
+          (least .starts) ss (λ i p. ap (λ (x : List ℕ). getD x i 0) held ∙ pad-at 24 0 ss i)
 
       -- what visiting comes to, once pruning is decided
-      decided : (p : Bool) → prunes (walk .best) (latency b (ss .ss)) ≡ p → next (clashes b) b (placeAt turns walk) ≡ (if p then back ts (incumbent (walk .best) (walk .starts)) else branch b (placeAt turns walk) (ss .ss) (firstMet (clashes b) (ss .ss) 0))
+      decided : (p : Bool) → prunes (walk .best) (latency b ss) ≡ p → next (clashes b) b (placeAt turns walk) ≡ (if p then back ts (incumbent (walk .best) (walk .starts)) else branch b (placeAt turns walk) ss (firstMet (clashes b) ss 0))
       unfolding next visit placeAt
       decided p g =
-          ap (visit (clashes b) b (placeAt turns walk)) (ss .is)
-          ∙ ap (λ (q : Bool). if q then back ts (incumbent (walk .best) (walk .starts)) else branch b (placeAt turns walk) (ss .ss) (firstMet (clashes b) (ss .ss) 0)) g
+          ap (visit (clashes b) b (placeAt turns walk)) is
+          ∙ ap (λ (q : Bool). if q then back ts (incumbent (walk .best) (walk .starts)) else branch b (placeAt turns walk) ss (firstMet (clashes b) ss 0)) g
 
-      module _ (l : ℕ) (g : l ≡ latencyOf ticks (least .starts) (sizes .jobs)) (p : Bool) (f : p ≡ prunes (walk .best) l) where
-        cut : prunes (walk .best) (latency b (ss .ss)) ≡ p
-        cut = ap (prunes (walk .best)) (sym (latency-tells l g)) ∙ sym f
+      module _ (p : Bool) (f : p ≡ prunes (walk .best) (least .latency)) where
+        cut : prunes (walk .best) (latency b ss) ≡ p
+        cut = ap (prunes (walk .best)) (sym latency-tells) ∙ sym f
 
         pub visit-pruned : (q : Place) → p ≡ true → q ≡ back ts (incumbent (walk .best) (walk .starts)) → q ≡ next (clashes b) b (placeAt turns walk)
         unfolding if_then_else_
@@ -143,25 +123,25 @@ module _ (b : Batch) (sizes : Sizes) (from to code ticks codes turns : List ℕ)
 
         module _ (m : Met) (r : m ≡ firstCode codes (sizes .clashes) (least .starts)) where
           -- no clash is met: best
-          pub visit-best : (q : Place) → p ≡ false → m ≡ seen.Nothing → q ≡ back ts (incumbent (Latency l) (least .starts)) → q ≡ next (clashes b) b (placeAt turns walk)
+          pub visit-best : (q : Place) → p ≡ false → m ≡ seen.Nothing → q ≡ back ts (incumbent (Latency (least .latency)) (least .starts)) → q ≡ next (clashes b) b (placeAt turns walk)
           unfolding if_then_else_ branch becomeBest placeAt
           visit-best q t u v =
-              v ∙ ap (λ (k : ℕ). back ts (incumbent (Latency k) (least .starts))) (latency-tells l g) ∙ ap (λ (x : List ℕ). back ts (incumbent (Latency (latency b (ss .ss))) x)) (ss .held)
-              ∙ sym (decided false (cut ∙ t) ∙ ap (branch b (placeAt turns walk) (ss .ss)) (met-none _ (sym (met-tells m r) ∙ u)))
+              v ∙ ap (λ (k : ℕ). back ts (incumbent (Latency k) (least .starts))) latency-tells ∙ ap (λ (x : List ℕ). back ts (incumbent (Latency (latency b ss)) x)) held
+              ∙ sym (decided false (cut ∙ t) ∙ ap (branch b (placeAt turns walk) ss) (met-none _ (sym (met-tells m r) ∙ u)))
 
           -- a clash is met: one turn more
           pub met-room : (k : ℕ) → m ≡ seen.Clash k → (k < 1024) × (walk .depth < 1024)
           unfolding placeAt
           met-room k u =
               let o = met-some _ k (sym (met-tells m r) ∙ u) in
-              let c : k < length (clashes b) = omega (arith, met-first (clashes b) (ss .ss) 0 k o .1) in
+              let c : k < length (clashes b) = omega (arith, met-first (clashes b) ss 0 k o .1) in
               let q = passes b sizes from to code ticks codes turns walk w in
               let gt = good b sizes from to code ticks codes turns walk w .turns in
-              let room = good-room b ts k gt c (met-new b (fits b q) ts (good-named b ts gt) (ss .ss) (ss .is) k o) in
+              let room = good-room b ts k gt c (met-new b (fits b q) ts (good-named b ts gt) ss is k o) in
               (omega (arith, few b sizes from to code ticks codes turns walk w), omega (arith, room, few b sizes from to code ticks codes turns walk w, turns-length turns (walk .depth)))
 
           pub visit-met : (k : ℕ) → p ≡ false → m ≡ seen.Clash k → placeAt (set turns (walk .depth) (2 * k)) (record { depth = walk .depth + 1; best = walk .best; starts = walk .starts; ended = false }) ≡ next (clashes b) b (placeAt turns walk)
           unfolding if_then_else_ branch placeAt
           visit-met k t u =
               ap (λ (l : List Turn). record { turns = l; incumbent = incumbent (walk .best) (walk .starts); ended = false }) (turn-added turns (walk .depth) k (omega (arith, w .path .full, met-room k u .1)))
-              ∙ sym (decided false (cut ∙ t) ∙ ap (branch b (placeAt turns walk) (ss .ss)) (met-some _ k (sym (met-tells m r) ∙ u)))
+              ∙ sym (decided false (cut ∙ t) ∙ ap (branch b (placeAt turns walk) ss) (met-some _ k (sym (met-tells m r) ∙ u)))

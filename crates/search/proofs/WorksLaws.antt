@@ -14,7 +14,7 @@ use Rattle.model.specs.declared.Turn.{Turn}
 use Rattle.model.specs.Common.{count}
 use Rattle.model.specs.Limits.{mostClashes}
 use Rattle.model.specs.Clash.{clashes}
-use Rattle.model.specs.Search.{Place, noClash, empty, startsAt, placeOf, searchOf}
+use Rattle.model.specs.Search.{Place, noClash, empty, inequalities, placeOf, searchOf}
 use Rattle.model.proofs.ListLaws.{each-item}
 use Rattle.model.proofs.SeqLaws.{listed-at, getD-in}
 use Rattle.model.proofs.LimitLaws.{counts-iff}
@@ -29,9 +29,13 @@ use Rattle.clashes.proofs.ListedLaws.{ranged-at, listed-at as clash-listed-at, 
 use Rattle.starts.specs.declared.delays.Delays.{Delays}
 use Rattle.starts.specs.declared.Least.{Least}
 use Rattle.starts.specs.Code.{ClashFits}
+use Rattle.starts.specs.Rounds.{Small}
 use Rattle.starts.specs.Table.{DelaysFit, TurnsFit}
+use Rattle.starts.specs.Delays.{ticksRead}
+use Rattle.starts.specs.Latency.{longestOf}
 use Rattle.starts.specs.Least.{leastOf, leastAs, HoldsDelays, HoldsTurns}
 use Rattle.starts.proofs.Law.{delays-fit, turns-fit, least-law}
+use Rattle.starts.proofs.LatencyLaws.{ticks-small}
 use Rattle.starts.proofs.SoundLaws.{holds-read}
 use Rattle.search.specs.declared.node.Walk.{Walk}
 use Rattle.search.specs.declared.node.Sizes.{Sizes}
@@ -61,6 +65,10 @@ pub place-back : (b : Batch) (total : ℕ) (turns : List ℕ) (walk : Walk) → 
 unfolding placeOf searchOf placeAt
 place-back b total turns walk p =
     ap (λ (l : List Turn). record { turns = l; incumbent = record { best = walk .best; starts = walk .starts }; ended = walk .ended }) (turns-path (turnsIn turns (walk .depth)) (small-turns turns (walk .depth) p))
+
+-- no job of a batch that passes has more than 16 ticks
+pub passing-ticks : (b : Batch) → Passes b → Small (ticksRead b) 16
+passing-ticks b p = ticks-small b (counts-iff (b .n) (b .m) .0 (p .counts) .0 .1) (fits b p .short)
 
 search-batch : (b : Batch) (total : ℕ) (q : Place) → searchOf b total q .batch ≡ b
 unfolding searchOf
@@ -141,18 +149,22 @@ module _ (b : Batch) (sizes : Sizes) (from to code ticks codes turns : List ℕ)
 
   -- ---- what least_starts asks and answers
 
-  pub least-asks : ((sizes .jobs ≤ 24) × ((sizes .delays ≤ 128) × (walk .depth ≤ 1024))) × (DelaysFit from to code (sizes .delays) × TurnsFit codes turns (walk .depth))
+  pub least-asks : ((sizes .jobs ≤ 24) × ((sizes .delays ≤ 128) × (walk .depth ≤ 1024))) × (DelaysFit from to code (sizes .delays) × (TurnsFit codes turns (walk .depth) × (Small ticks 16 × (sizes .longest ≡ longestOf ticks))))
   least-asks =
       let d = turns-length turns (walk .depth) in (
         (omega (arith, w .jobs, counts .1), (omega (arith, w .few, counts .2), w .path .deep)),
         (
           subst (DelaysFit from to code) (sym (w .few)) (delays-fit b (counts .1) from to code held),
-          subst (TurnsFit codes turns) d (turns-fit (b .n) (counts .1) (clashes b) (turnsIn turns (walk .depth)) codes turns turned),
+          (
+            subst (TurnsFit codes turns) d (turns-fit (b .n) (counts .1) (clashes b) (turnsIn turns (walk .depth)) codes turns turned),
+            (rw (w .each-ticks) (passing-ticks b passes), w .longest),
+          ),
         ),
       )
 
-  pub least-tells : (r : Least) → r ≡ leastOf (sizes .jobs) (sizes .delays) from to code codes turns (walk .depth) → r ≡ leastAs (startsAt (clashes b) b (turnsIn turns (walk .depth)))
+  pub least-tells : (r : Least) → r ≡ leastOf (sizes .jobs) (sizes .delays) from to code ticks codes turns (walk .depth) → r ≡ leastAs b (inequalities (clashes b) b (turnsIn turns (walk .depth)))
   least-tells r e =
-      e ∙ ap (λ (n : ℕ). leastOf n (sizes .delays) from to code codes turns (walk .depth)) (w .jobs) ∙ ap (λ (m : ℕ). leastOf (b .n) m from to code codes turns (walk .depth)) (w .few)
-      ∙ ap (leastOf (b .n) (b .m) from to code codes turns) (sym (turns-length turns (walk .depth)))
+      e ∙ ap (λ (n : ℕ). leastOf n (sizes .delays) from to code ticks codes turns (walk .depth)) (w .jobs) ∙ ap (λ (m : ℕ). leastOf (b .n) m from to code ticks codes turns (walk .depth)) (w .few)
+      ∙ ap (λ (x : List ℕ). leastOf (b .n) (b .m) from to code x codes turns (walk .depth)) (w .each-ticks)
+      ∙ ap (leastOf (b .n) (b .m) from to code (ticksRead b) codes turns) (sym (turns-length turns (walk .depth)))
       ∙ least-law b (clashes b) (turnsIn turns (walk .depth)) from to code codes turns (counts .0) (counts .1) held turned

@@ -10,6 +10,7 @@ use Rattle.model.specs.Search.{next, searchOf, nodesOn}
 use Rattle.model.specs.Sound.{sound}
 use Rattle.clashes.specs.List.{listOf}
 use Rattle.starts.specs.Delays.{delaysRead, ticksRead}
+use Rattle.starts.specs.Latency.{longestOf}
 use Rattle.search.specs.declared.node.Walk.{Walk}
 use Rattle.search.specs.declared.node.Sizes.{Sizes}
 use Rattle.search.specs.declared.nodes.Walked.{Walked}
@@ -21,6 +22,7 @@ pub record Works (b : Batch) (sizes : Sizes) (from to code ticks codes turns : L
   pub few : sizes .delays ≡ b .m
   pub delays : record { from = from; to = to; code = code } ≡ delaysRead b
   pub each-ticks : ticks ≡ ticksRead b
+  pub longest : sizes .longest ≡ longestOf ticks
   pub listed : record { count = sizes .clashes; codes = codes } ≡ listOf b
   pub path : Path turns (walk .depth)
   pub is-sound : sound (searchOf b 0 (placeAt turns walk)) ≡ true

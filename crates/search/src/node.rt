@@ -4,7 +4,6 @@ use crate::back::go_back;
 use clashes::Met;
 use clashes::first_met;
 use model::Best;
-use starts::latency::latency_of;
 use starts::least_starts;
 ghost use mathlib.Core.Path.{_≡_};
 ghost use Rattle.model.specs.Search.{prunes as prunesAt, back as backFrom};
@@ -19,11 +18,12 @@ pub struct Walk {
     pub ended: bool,
 }
 
-// How many jobs, delays and clashes there are.
+// How many jobs, delays and clashes there are, and the ticks of the longest job.
 pub struct Sizes {
     pub jobs: usize,
     pub delays: usize,
     pub clashes: usize,
+    pub longest: u16,
 }
 
 // Best exists, and the latency is at or above best's.
@@ -73,6 +73,8 @@ pub fn visit(
         from,
         to,
         code,
+        ticks,
+        sizes.longest,
         codes,
         turns,
         depth,
@@ -81,7 +83,7 @@ pub fn visit(
         return gone_back(turns, depth, best, kept);
     }
     let starts = least.starts;
-    let latency = latency_of(ticks, &starts, sizes.jobs);
+    let latency = least.latency;
     if prunes(best, latency) {
         return gone_back(turns, depth, best, kept);
     }

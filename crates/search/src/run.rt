@@ -13,6 +13,7 @@ use model::Tally;
 use model::wide;
 use soundness::Examined;
 use soundness::examine;
+use starts::latency::latency_of;
 ghost use mathlib.Core.Path.{_≡_};
 ghost use mathlib.Core.Bool.{true, false, not, _||_};
 ghost use lib.Dec.{leb};
@@ -65,6 +66,7 @@ fn advance(search: Search, examined: Examined, budget: u32) -> Search
         jobs: wide(batch.n),
         delays: wide(batch.m),
         clashes: clashes.count,
+        longest: latency_of(&ticks, &[0u16; 24]),
     };
     let start = Walk {
         depth: examined.depth,

@@ -1,19 +1,20 @@
 -- The latency by the arrays is the latency of the definitions.
-use mathlib.Core.Path.{_≡_, refl, ap}
+use mathlib.Core.Path.{_≡_, refl, ap, _∙_}
 use mathlib.Core.List.{List, [], _∷_, _++_, map, foldr}
-use Prim.Native.Nat.{ℕ, zero, suc, _+_, _≤_, _<_, max}
+use Prim.Native.Nat.{ℕ, zero, suc, _+_, _-_, _≤_, _<_, max}
 use native.Mathlib.Omega.{arith}
+use native.Mathlib.Decide.{decLt}
 use native.Mathlib.Numerals.{add-one}
-use lib.ListN.{getD}
+use lib.ListN.{getD, length, replicate, List·getD-eq-default}
 use Rattle.model.specs.declared.Batch.{Batch}
 use Rattle.model.specs.Common.{count, pad}
 use Rattle.model.specs.Batch.{ticks}
 use Rattle.model.specs.Plan.{start, finish, latency}
 use Rattle.starts.specs.Rounds.{Small}
 use Rattle.starts.specs.Delays.{ticksRead}
-use Rattle.starts.specs.Latency.{latencyOf, TicksFit}
+use Rattle.starts.specs.Latency.{latencyOf, longestOf}
 use Rattle.model.proofs.SeqLaws.{listed-snoc, pad-at}
-use Rattle.starts.proofs.FillLaws.{filled-at}
+use Rattle.starts.proofs.FillLaws.{filled-at, filled-past}
 
 -- ---- the code's loop
 
@@ -26,6 +27,19 @@ module _ (ps ss : List ℕ) where
   unfolding latencyOf
   latency-more k = rw (add-one k)
 
+  -- places from n on that hold 0 add nothing
+  latency-rest : (n : ℕ) → ((i : ℕ) → n ≤ i → getD ss i 0 + getD ps i 0 ≡ 0) → (k : ℕ) → latencyOf ps ss (k + n) ≡ latencyOf ps ss n
+  unfolding latencyOf
+  latency-rest n z zero = let e : 0 + n ≡ n = omega arith in ap (latencyOf ps ss) e
+  latency-rest n z (suc k) =
+      let e : suc k + n ≡ suc (k + n) = omega arith in
+      ap (latencyOf ps ss) e ∙ omega (arith, latency-rest n z k, z (k + n) (omega arith))
+
+-- without ticks it is 0
+pub longest-none : 0 ≡ longestOf (replicate 24 0)
+unfolding longestOf latencyOf
+longest-none = refl
+
 -- ---- the definition
 
 most-snoc : (xs : List ℕ) (x : ℕ) → foldr max 0 (xs ++ (x ∷ [])) ≡ max (foldr max 0 xs) x
@@ -37,11 +51,19 @@ pub ticks-at : (b : Batch) → b .n ≤ 24 → (i : ℕ) → i < b .n → getD (
 unfolding ticksRead
 ticks-at b few i p = filled-at (ticks b) 24 (b .n) i few p
 
-module _ (b : Batch) (few : b .n ≤ 24) (ss : List ℕ) where
-  -- where jobs have at most 16 ticks and the starts are those of least starts, nothing overflows
-  pub ticks-fit : ((i : ℕ) → i < b .n → ticks b i ≤ 16) → Small ss 24000 → TicksFit (ticksRead b) ss (b .n)
-  ticks-fit h s = record { short = λ i p. omega (arith, ticks-at b few i p, h i p); early = λ i p. s .each i }
+ticks-past : (b : Batch) (i : ℕ) → b .n ≤ i → getD (ticksRead b) i 0 ≡ 0
+unfolding ticksRead
+ticks-past b i p = filled-past (ticks b) 24 (b .n) i p
 
+-- jobs of at most 16 ticks
+pub ticks-small : (b : Batch) → b .n ≤ 24 → ((i : ℕ) → i < b .n → ticks b i ≤ 16) → Small (ticksRead b) 16
+ticks-small b few h = record { each = λ i. go i (decLt i (b .n)) }
+  where
+    go : (i : ℕ) → Dec (i < b .n) → getD (ticksRead b) i 0 ≤ 16
+    go i (yes p) = omega (arith, ticks-at b few i p, h i p)
+    go i (no p) = omega (arith, ticks-past b i (omega arith))
+
+module _ (b : Batch) (few : b .n ≤ 24) (ss : List ℕ) where
   latency-to : (ts : List ℕ) → ((i : ℕ) → i < b .n → getD ss i 0 ≡ getD ts i 0) → (k : ℕ) → k ≤ b .n → latencyOf (ticksRead b) ss k ≡ foldr max 0 (map (λ i. finish b i (start ts i)) (count 0 k))
   unfolding latencyOf finish start count
   latency-to ts h zero p = refl
@@ -59,5 +81,10 @@ module _ (b : Batch) (few : b .n ≤ 24) (ss : List ℕ) where
   unfolding latency
   latency-law ts h = latency-to ts h (b .n) (omega arith)
 
-pub latency-padded : (b : Batch) → b .n ≤ 24 → (ts : List ℕ) → latencyOf (ticksRead b) (pad 24 0 ts) (b .n) ≡ latency b ts
-latency-padded b few ts = latency-law b few (pad 24 0 ts) ts (λ i p. pad-at 24 0 ts i)
+-- places past n add nothing, so that all 24 may be taken
+pub latency-padded : (b : Batch) → b .n ≤ 24 → (ts : List ℕ) → length ts ≡ b .n → latencyOf (ticksRead b) (pad 24 0 ts) 24 ≡ latency b ts
+latency-padded b few ts l =
+    let e : 24 ≡ 24 - b .n + b .n = omega arith in
+    ap (latencyOf (ticksRead b) (pad 24 0 ts)) e
+    ∙ latency-rest (ticksRead b) (pad 24 0 ts) (b .n) (λ i p. omega (arith, ticks-past b i p, pad-at 24 0 ts i, List·getD-eq-default ts 0 {n = i} (omega arith))) (24 - b .n)
+    ∙ latency-law b few (pad 24 0 ts) ts (λ i p. pad-at 24 0 ts i)

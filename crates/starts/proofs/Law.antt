@@ -1,31 +1,41 @@
 -- What a caller wants to know: where the arrays hold a batch's delays and a path's turns, they meet what `least_starts` asks, its table
 -- is the definition's table, and its answer is the definition's least starts.
 use mathlib.Core.Path.{_≡_, refl, sym, _∙_, ap}
+use mathlib.Core.Bool.{Bool, true, false}
 use mathlib.Core.Option.{Option, none, some}
 use mathlib.Core.List.{List, [], _∷_, _++_, map, append-assoc, append-nil}
-use Prim.Native.Nat.{ℕ, zero, suc, _+_, _*_, _/_, _%_, _≤_, _<_}
+use Prim.Native.Nat.{ℕ, zero, suc, _+_, _*_, _/_, _%_, _≤_, _<_, pred}
 use native.Mathlib.Omega.{arith}
-use lib.ListN.{length, getD, take, length-map, List·getD-map}
+use lib.ListN.{length, getD, take, replicate, length-map, List·getD-map}
 use lib.Seq.{take-suc, take-length, ext-getD}
 use lib.IntN.{ℤ, pos, _+ℤ_, _-ℤ_}
 use Rattle.model.specs.declared.Delay.{Delay}
 use Rattle.model.specs.declared.Batch.{Batch}
 use Rattle.model.specs.declared.Turn.{Turn}
-use Rattle.model.specs.Common.{count, isSome}
+use Rattle.model.specs.Common.{if_then_else_, count, pad, isSome}
 use Rattle.model.specs.Batch.{delayOf, delaysOf}
+use Rattle.model.specs.Plan.{start, latency}
 use Rattle.model.specs.Clash.{Clash}
-use Rattle.model.specs.Starts.{entry, table, leastStarts}
-use Rattle.model.specs.Search.{noClash, sideOf, turned, inequalities, startsAt, empty}
+use Rattle.model.specs.Starts.{entry, table, rounds, same, firstStarts, leastStarts}
+use Rattle.model.specs.Search.{noClash, sideOf, turned, inequalities, empty}
+use Rattle.model.proofs.StartsLaws.{after-rises}
+use Rattle.model.proofs.NodeLaws.{latency-mono}
 use Rattle.model.proofs.SeqLaws.{map-snoc, listed-snoc, listed-at, listed-length}
 use Rattle.clashes.specs.Code.{codeOf}
 use Rattle.clashes.specs.First.{Named}
+use Rattle.starts.specs.declared.Least.{Least}
 use Rattle.starts.specs.Code.{coded, placeCode, ClashFits}
 use Rattle.starts.specs.Table.{putIn, turnIn, withDelays, withTurns, emptyTable, DelaysFit, TurnsFit}
+use Rattle.starts.specs.Rounds.{roundsOf}
+use Rattle.starts.specs.Delays.{ticksRead}
+use Rattle.starts.specs.Latency.{latencyOf}
 use Rattle.starts.specs.Least.{leastOf, leastAs, HoldsDelays, HoldsTurns}
 use Rattle.starts.proofs.CodeLaws.{coded-most, clash-i, clash-j, clash-d, side0-code, side0-limited, side1-code, side1-limited}
 use Rattle.starts.proofs.TableLaws.{turn-side0, turn-side1}
 use Rattle.starts.proofs.PlaceLaws.{codeAt, Tabled, empty-tabled, put-tabled}
-use Rattle.starts.proofs.SettledLaws.{settled-is}
+use Rattle.starts.proofs.RaisedLaws.{rounds-length}
+use Rattle.starts.proofs.LatencyLaws.{latency-padded}
+use Rattle.starts.proofs.SettledLaws.{after, after-is, settled-is}
 
 -- ---- delays
 
@@ -98,6 +108,14 @@ module _ (n : ℕ) (few : n ≤ 24) (cs : List Clash) (ts : List Turn) (clashes 
       (side-tabled n few (withTurns clashes turns t k) (qs ++ map (turned cs) (take k ts)) (turns-tabled t qs d k (omega arith)) (getD cs (u .clash) noClash) (h .fits k l)
       (u .side) (getD turns k 0) (getD clashes (getD turns k 0 / 2) 0) (h .side k l) (omega (arith, h .turn k l, h .side k l)) (code-is k l))
 
+-- the table that is filled from the delays and the turns holds the path's inequalities
+pub path-tabled : (b : Batch) (cs : List Clash) (ts : List Turn) (froms tos codes clashes turns : List ℕ) → b .n ≤ 24 → HoldsDelays b froms tos codes → HoldsTurns (b .n) cs ts clashes turns
+    → Tabled (b .n) (withTurns clashes turns (withDelays froms tos codes emptyTable (b .m)) (length ts)) (inequalities cs b ts)
+unfolding inequalities delaysOf
+path-tabled b cs ts froms tos codes clashes turns few hd ht =
+    let e : map (turned cs) (take (length ts) ts) ≡ map (turned cs) ts = ap (map (turned cs)) (take-length ts) in
+    rw e at (turns-tabled (b .n) few cs ts clashes turns ht _ _ (delays-tabled b few froms tos codes hd (b .m) (omega arith)) (length ts) (omega arith))
+
 -- no turns at all
 pub no-turns : (clashes turns : List ℕ) → TurnsFit clashes turns 0
 no-turns clashes turns = record { clash = λ k p. absurd (omega arith); jobs = λ k p. absurd (omega arith) }
@@ -133,24 +151,73 @@ fours-low n = omega arith
 pub fours-high : (n : ℕ) → n ≤ 24 → 4 * ((n + 3) / 4) ≤ 24
 fours-high n h = omega arith
 
+-- the rounds of the code, over any table that holds a list of inequalities
+module _ (b : Batch) (few : b .n ≤ 24) (t : List (List ℕ)) (qs : List Delay) (h : Tabled (b .n) t qs) where
+  -- what k rounds leave
+  abbrev left : List ℕ → ℕ → Least
+  left ticks k = roundsOf t ticks ((b .n + 3) / 4) (replicate 24 0) k
+
+  -- after every round, from 0 on, the starts are the definition's
+  pub round-starts : (ticks : List ℕ) (k : ℕ) → k ≤ b .n → left ticks k .starts ≡ pad 24 0 (after (b .n) qs k)
+  unfolding roundsOf
+  round-starts ticks k p = after-is (b .n) few t qs h _ (fours-low (b .n)) (fours-high (b .n) few) k p
+
+  -- and the running latency is that of these starts
+  pub round-latency : (k : ℕ) → k ≤ b .n → left (ticksRead b) k .latency ≡ latency b (after (b .n) qs k)
+  unfolding roundsOf
+  round-latency k p =
+      ap (λ (l : List ℕ). latencyOf (ticksRead b) l 24) (after-is (b .n) few t qs h _ (fours-low (b .n)) (fours-high (b .n) few) k p)
+      ∙ latency-padded b few (after (b .n) qs k) (rounds-length (b .n) qs k)
+
+  -- so it rises with them
+  pub latency-rises : (k : ℕ) → suc k ≤ b .n → left (ticksRead b) k .latency ≤ left (ticksRead b) (suc k) .latency
+  unfolding start Rattle.model.proofs.StartsLaws.after
+  latency-rises k p =
+      rw (round-latency k (omega arith), round-latency (suc k) p)
+      (latency-mono b (after (b .n) qs k) (after (b .n) qs (suc k)) (λ j. after-rises qs (firstStarts (b .n)) k j))
+
+  -- round n changes nothing where the definition's does not
+  pub round-found : (ticks : List ℕ) → 1 ≤ b .n → left ticks (b .n) .found ≡ same (after (b .n) qs (b .n)) (after (b .n) qs (pred (b .n)))
+  unfolding roundsOf
+  round-found ticks one = settled-is (b .n) few t qs h _ (fours-low (b .n)) (fours-high (b .n) few) one
+
+-- 02, Q-2: after every round of a node, from 0 on, whether or not there are least starts in the end, the running value is the latency of that
+-- round's starts; after 0 rounds it is the longest job's ticks
+pub every-round : (b : Batch) (cs : List Clash) (ts : List Turn) (froms tos codes clashes turns : List ℕ) → b .n ≤ 24 → HoldsDelays b froms tos codes → HoldsTurns (b .n) cs ts clashes turns → (k : ℕ) → k ≤ b .n
+    → roundsOf (withTurns clashes turns (withDelays froms tos codes emptyTable (b .m)) (length ts)) (ticksRead b) ((b .n + 3) / 4) (replicate 24 0) k .latency ≡ latency b (rounds (inequalities cs b ts) (firstStarts (b .n)) k)
+every-round b cs ts froms tos codes clashes turns few hd ht k p =
+    round-latency b few _ _ (path-tabled b cs ts froms tos codes clashes turns few hd ht) k p
+
+-- there are least starts where round n changes nothing, and they are those after it
+module _ (n : ℕ) (qs : List Delay) where
+  some-is : isSome (leastStarts n qs) ≡ same (after n qs n) (after n qs (pred n))
+  unfolding leastStarts isSome if_then_else_
+  some-is = go (same (after n qs n) (after n qs (pred n)))
+    where
+      go : (p : Bool) → isSome (if p then some (after n qs n) else none) ≡ p
+      go true = refl
+      go false = refl
+
+  pub found-some : isSome (leastStarts n qs) ≡ true → leastStarts n qs ≡ some (after n qs n)
+  unfolding leastStarts if_then_else_
+  found-some h = let e : same (after n qs n) (after n qs (pred n)) ≡ true = sym some-is ∙ h in rw e
+
+  pub found-none : isSome (leastStarts n qs) ≡ false → leastStarts n qs ≡ none
+  unfolding leastStarts if_then_else_
+  found-none h = let e : same (after n qs n) (after n qs (pred n)) ≡ false = sym some-is ∙ h in rw e
+
 -- the least starts of the delays and the turns
 pub least-law : (b : Batch) (cs : List Clash) (ts : List Turn) (froms tos codes clashes turns : List ℕ) → 1 ≤ b .n → b .n ≤ 24 → HoldsDelays b froms tos codes → HoldsTurns (b .n) cs ts clashes turns
-    → leastOf (b .n) (b .m) froms tos codes clashes turns (length ts) ≡ leastAs (startsAt cs b ts)
-unfolding leastOf startsAt inequalities delaysOf
+    → leastOf (b .n) (b .m) froms tos codes (ticksRead b) clashes turns (length ts) ≡ leastAs b (inequalities cs b ts)
+unfolding leastOf leastAs
 least-law b cs ts froms tos codes clashes turns one few hd ht =
-    let d = delays-tabled b few froms tos codes hd (b .m) (omega arith) in
-    let e : map (turned cs) (take (length ts) ts) ≡ map (turned cs) ts = ap (map (turned cs)) (take-length ts) in
-    settled-is (b .n) few _ _ (rw e at (turns-tabled (b .n) few cs ts clashes turns ht _ _ d (length ts) (omega arith))) _ (fours-low (b .n)) (fours-high (b .n) few) one
+    let h = path-tabled b cs ts froms tos codes clashes turns few hd ht in
+    let n = b .n in
+    rw (← round-starts b few _ _ h (ticksRead b) n (omega arith), ← round-latency b few _ _ h n (omega arith), some-is n _, ← round-found b few _ _ h (ticksRead b) one)
 
--- with no turns: the least starts of the delays alone
-pub least-delays : (b : Batch) (froms tos codes clashes turns : List ℕ) → 1 ≤ b .n → b .n ≤ 24 → HoldsDelays b froms tos codes
-    → leastOf (b .n) (b .m) froms tos codes clashes turns 0 ≡ leastAs (leastStarts (b .n) (delaysOf b))
+-- with no turns: whether the delays alone have least starts, whatever the ticks are
+pub least-delays : (b : Batch) (froms tos codes ticks clashes turns : List ℕ) → 1 ≤ b .n → b .n ≤ 24 → HoldsDelays b froms tos codes
+    → leastOf (b .n) (b .m) froms tos codes ticks clashes turns 0 .found ≡ isSome (leastStarts (b .n) (delaysOf b))
 unfolding leastOf delaysOf withTurns
-least-delays b froms tos codes clashes turns one few h =
-    settled-is (b .n) few _ _ (delays-tabled b few froms tos codes h (b .m) (omega arith)) _ (fours-low (b .n)) (fours-high (b .n) few) one
-
--- there are least starts exactly where the definitions have some
-pub found-is : (o : Option (List ℕ)) → leastAs o .found ≡ isSome o
-unfolding leastAs isSome
-found-is none = refl
-found-is (some l) = refl
+least-delays b froms tos codes ticks clashes turns one few h =
+    round-found b few _ _ (delays-tabled b few froms tos codes h (b .m) (omega arith)) ticks one ∙ sym (some-is (b .n) _)

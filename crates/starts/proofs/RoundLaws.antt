@@ -7,13 +7,16 @@ use Prim.Native.Nat.{ℕ, zero, suc, _+_, _*_, _-_, _≤_, _<_, max}
 use native.Mathlib.Nat.{eq-or-lt-of-le, not-suc-le-zero}
 use native.Mathlib.Numerals.{add-one, sub-one}
 use native.Mathlib.Omega.{arith}
+use native.Mathlib.Decide.{ℕ-discrete}
 use lib.Dec.{eqb}
-use lib.ListN.{getD, replicate}
-use Rattle.model.specs.Common.{if_then_else_}
-use Rattle.model.proofs.BoolLaws.{and-false}
+use lib.ListN.{getD, length}
+use lib.Seq.{ext-getD}
+use borrow.Author.Tests.{eqb-true, eq-eqb}
+use Rattle.model.proofs.BoolLaws.{both, and-false}
 use Rattle.starts.specs.declared.Least.{Least}
-use Rattle.starts.specs.Rounds.{Small, SmallRows, Lifted, sumAt, largest, startOf, roundOf, raisedTo, liftedOf, loweredOf, fourRaised, sameTo, leastFrom}
-use Rattle.starts.proofs.FillLaws.{filled-at, filled-cong, filled-small, small-more}
+use Rattle.starts.specs.Rounds.{Small, SmallRows, Lifted, sumAt, largest, startOf, roundOf, raisedTo, liftedOf, loweredOf, fourRaised, sameTo, startsAfter, settled, roundsOf}
+use Rattle.starts.specs.Latency.{latencyOf}
+use Rattle.starts.proofs.FillLaws.{filled-length, filled-at, filled-cong, filled-small, small-more}
 
 -- ---- one start
 
@@ -112,30 +115,90 @@ same-never a b k (suc n) h e =
     (λ (w : k < n). rw (same-never a b k n w e) (and-false (eqb (getD a n 0) (getD b n 0))))
     (eq-or-lt-of-le (omega arith))
 
--- ---- the rounds, as the code has them: the new starts and the test are results of calls
+pub same-self : (l : List ℕ) (k : ℕ) → sameTo l l k ≡ true
+unfolding sameTo
+same-self l zero = refl
+same-self l (suc k) = rw (eq-eqb (getD l k 0) (getD l k 0) refl) (same-self l k)
 
-module _ (table : List (List ℕ)) (old : List ℕ) (fours k : ℕ) where
-  pub least-none : k ≡ 0 → record { found = false; starts = replicate 24 0 } ≡ leastFrom table old fours k
-  unfolding leastFrom
-  least-none h = rw h
+pub same-at : (a b : List ℕ) (k : ℕ) → sameTo a b k ≡ true → (i : ℕ) → i < k → getD a i 0 ≡ getD b i 0
+unfolding sameTo
+same-at a b zero e i h = absurd (omega arith)
+same-at a b (suc k) e i h =
+    let p = both (eqb (getD a k 0) (getD b k 0)) (sameTo a b k) e in
+    go (ℕ-discrete i k) (same-at a b k (p .1) i) (eqb-true (getD a k 0) (getD b k 0) (p .0))
+  where
+    go : Dec (i ≡ k) → (i < k → getD a i 0 ≡ getD b i 0) → getD a k 0 ≡ getD b k 0 → getD a i 0 ≡ getD b i 0
+    go (yes q) rec t = rw q t
+    go (no q) rec t = rec (omega arith)
 
-  module _ (new : List ℕ) (r : Bool) (more : k ≡ 0 → ⊥) (e : new ≡ roundOf table old (4 * fours)) (s : r ≡ sameTo old new 24) where
-    pub least-found : r ≡ true → record { found = true; starts = old } ≡ leastFrom table old fours k
-    unfolding leastFrom if_then_else_
-    least-found p = go k more
-      where
-        go : (k : ℕ) → (k ≡ 0 → ⊥) → record { found = true; starts = old } ≡ leastFrom table old fours k
-        go zero h = absurd (h refl)
-        go (suc k) h = let t : sameTo old (roundOf table old (4 * fours)) 24 ≡ true = rw (← e) (sym s ∙ p) in rw t
+-- the test finds no difference only if there is none
+pub same-is : (a b : List ℕ) (k : ℕ) → length a ≡ k → length b ≡ k → sameTo a b k ≡ true → a ≡ b
+same-is a b k p q e = ext-getD 0 a b (p ∙ sym q) (λ i h. same-at a b k e i (omega arith))
 
-    pub least-more : r ≡ false → (x : Least) → x ≡ leastFrom table new fours (k - 1) → x ≡ leastFrom table old fours k
-    unfolding leastFrom if_then_else_
-    least-more p x q = q ∙ go k more
-      where
-        go : (k : ℕ) → (k ≡ 0 → ⊥) → leastFrom table new fours (k - 1) ≡ leastFrom table old fours k
-        go zero h = absurd (h refl)
-        go (suc k) h =
-            let t : sameTo old (roundOf table old (4 * fours)) 24 ≡ false = rw (← e) (sym s ∙ p) in rw (t, e, sub-one (suc k))
+-- ---- k rounds: the first and then the others, as the code has them
 
-    pub next-small : k ≤ 24 → SmallRows table → Small old (1000 * (24 - k)) → Small new (1000 * (24 - (k - 1)))
-    next-small b p q = rw e (small-more _ _ _ (omega arith) (round-small table old (4 * fours) _ p q))
+module _ (table : List (List ℕ)) (fours : ℕ) where
+  -- one round
+  abbrev next : List ℕ → List ℕ
+  next old = roundOf table old (4 * fours)
+
+  after-first : (old : List ℕ) (k : ℕ) → startsAfter table fours old (suc k) ≡ startsAfter table fours (next old) k
+  unfolding startsAfter
+  after-first old zero = refl
+  after-first old (suc k) = ap next (after-first old k)
+
+  settled-one : (old : List ℕ) → settled table fours old 1 ≡ sameTo old (next old) 24
+  unfolding settled startsAfter
+  settled-one old = refl
+
+  -- where the first changes something, the last is the last of the others
+  settled-first : (old : List ℕ) (k : ℕ) → sameTo old (next old) 24 ≡ false → settled table fours old (suc k) ≡ settled table fours (next old) k
+  unfolding settled
+  settled-first old zero h = settled-one old ∙ h
+  settled-first old (suc k) h = rw (after-first old k, after-first old (suc k))
+
+  -- no round changes anything after one that changed nothing
+  after-stays : (old : List ℕ) → old ≡ next old → (k : ℕ) → startsAfter table fours old k ≡ old
+  unfolding startsAfter
+  after-stays old e zero = refl
+  after-stays old e (suc k) = ap next (after-stays old e k) ∙ sym e
+
+  settled-stays : (old : List ℕ) → old ≡ next old → (k : ℕ) → settled table fours old (suc k) ≡ true
+  unfolding settled
+  settled-stays old e k = rw (after-stays old e k, after-stays old e (suc k)) (same-self old 24)
+
+  -- the new starts and the test are results of calls, and the latency is that of the starts
+  module _ (ticks old : List ℕ) (k latency : ℕ) (l : latency ≡ latencyOf ticks old 24) where
+    pub rounds-none : k ≡ 0 → record { starts = old; latency = latency; found = false } ≡ roundsOf table ticks fours old k
+    unfolding roundsOf startsAfter settled
+    rounds-none h = rw (h, l)
+
+    module _ (new : List ℕ) (r : Bool) (more : k ≡ 0 → ⊥) (e : new ≡ next old) (s : r ≡ sameTo old new 24) where
+      pub next-long : length new ≡ 24
+      unfolding roundOf
+      next-long = rw e (filled-length (λ j. startOf table old j (4 * fours)) 24 24)
+
+      pub rounds-end : length old ≡ 24 → r ≡ true → record { starts = old; latency = latency; found = true } ≡ roundsOf table ticks fours old k
+      unfolding roundsOf
+      rounds-end h p = go k more
+        where
+          stays : old ≡ next old
+          stays = same-is old new 24 h next-long (sym s ∙ p) ∙ e
+
+          go : (k : ℕ) → (k ≡ 0 → ⊥) → record { starts = old; latency = latency; found = true } ≡ roundsOf table ticks fours old k
+          go zero z = absurd (z refl)
+          go (suc k) z = rw (after-stays old stays (suc k), settled-stays old stays k, l)
+
+      pub rounds-more : r ≡ false → (x : Least) → x ≡ roundsOf table ticks fours new (k - 1) → x ≡ roundsOf table ticks fours old k
+      unfolding roundsOf
+      rounds-more p x q = q ∙ go k more
+        where
+          changed : sameTo old (next old) 24 ≡ false
+          changed = rw (← e) (sym s ∙ p)
+
+          go : (k : ℕ) → (k ≡ 0 → ⊥) → roundsOf table ticks fours new (k - 1) ≡ roundsOf table ticks fours old k
+          go zero z = absurd (z refl)
+          go (suc k) z = rw (e, sub-one (suc k), after-first old k, settled-first old k changed)
+
+      pub next-small : k ≤ 24 → SmallRows table → Small old (1000 * (24 - k)) → Small new (1000 * (24 - (k - 1)))
+      next-small b p q = rw e (small-more _ _ _ (omega arith) (round-small table old (4 * fours) _ p q))

@@ -1,31 +1,33 @@
 -- Least starts by the table, and what the arrays must hold for them to be those of a batch and its turns.
 use Prim.Native.Nat.{ℕ, _+_, _*_, _/_, _≤_, _<_}
 use mathlib.Core.Path.{_≡_}
-use mathlib.Core.Bool.{true, false}
 use mathlib.Core.List.{List}
-use mathlib.Core.Option.{Option, none, some}
 use lib.ListN.{getD, length, replicate}
 use Rattle.model.specs.declared.Batch.{Batch}
+use Rattle.model.specs.declared.Delay.{Delay}
 use Rattle.model.specs.declared.Turn.{Turn}
-use Rattle.model.specs.Common.{pad}
+use Rattle.model.specs.Common.{isSome, pad}
 use Rattle.model.specs.Batch.{delayOf}
+use Rattle.model.specs.Plan.{latency}
 use Rattle.model.specs.Clash.{Clash}
+use Rattle.model.specs.Starts.{rounds, firstStarts, leastStarts}
 use Rattle.model.specs.Search.{noClash, empty}
 use Rattle.clashes.specs.Code.{codeOf}
 use Rattle.starts.specs.declared.Least.{Least}
 use Rattle.starts.specs.Code.{Limited, coded, ClashFits}
-use Rattle.starts.specs.Rounds.{leastFrom}
+use Rattle.starts.specs.Rounds.{roundsOf}
 use Rattle.starts.specs.Table.{withDelays, withTurns, emptyTable}
 
 -- the least starts of the first m delays and the first depth turns, over n jobs
-unfoldable pub leastOf : ℕ → ℕ → List ℕ → List ℕ → List ℕ → List ℕ → List ℕ → ℕ → Least
-leastOf n m from to code clashes turns depth =
-    leastFrom (withTurns clashes turns (withDelays from to code emptyTable m) depth) (replicate 24 0) ((n + 3) / 4) n
+unfoldable pub leastOf : ℕ → ℕ → List ℕ → List ℕ → List ℕ → List ℕ → List ℕ → List ℕ → ℕ → Least
+leastOf n m from to code ticks clashes turns depth =
+    roundsOf (withTurns clashes turns (withDelays from to code emptyTable m) depth) ticks ((n + 3) / 4) (replicate 24 0) n
 
--- the answer for least starts as the definitions have them
-unfoldable pub leastAs : Option (List ℕ) → Least
-leastAs none = record { found = false; starts = replicate 24 0 }
-leastAs (some starts) = record { found = true; starts = pad 24 0 starts }
+-- the same as the definitions have it: the starts after n rounds, their latency, and whether they are least starts
+unfoldable pub leastAs : Batch → List Delay → Least
+leastAs b qs =
+    let last = rounds qs (firstStarts (b .n)) (b .n) in
+    record { starts = pad 24 0 last; latency = latency b last; found = isSome (leastStarts (b .n) qs) }
 
 -- the arrays hold the batch's delays, which are within their limits
 pub record HoldsDelays (b : Batch) (froms tos codes : List ℕ) : Type 0 where

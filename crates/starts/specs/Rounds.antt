@@ -4,8 +4,8 @@ use mathlib.Core.Bool.{Bool, true, false, _&&_}
 use mathlib.Core.List.{List, []}
 use lib.ListN.{getD, set, replicate}
 use lib.Dec.{eqb}
-use Rattle.model.specs.Common.{if_then_else_}
 use Rattle.starts.specs.declared.Least.{Least}
+use Rattle.starts.specs.Latency.{latencyOf}
 
 -- every number of the list is at most the bound
 pub record Small (l : List ℕ) (bound : ℕ) : Type 0 where
@@ -63,9 +63,20 @@ unfoldable pub sameTo : List ℕ → List ℕ → ℕ → Bool
 sameTo a b zero = true
 sameTo a b (suc k) = eqb (getD a k 0) (getD b k 0) && sameTo a b k
 
--- with at most k rounds more, over the first 4 * fours rows: the starts after which a round changes nothing, or none
-unfoldable pub leastFrom : List (List ℕ) → List ℕ → ℕ → ℕ → Least
-leastFrom table old fours zero = record { found = false; starts = replicate 24 0 }
-leastFrom table old fours (suc k) =
-    let new = roundOf table old (4 * fours) in
-    if sameTo old new 24 then record { found = true; starts = old } else leastFrom table new fours k
+-- ---- k rounds over the first 4 * fours rows
+
+-- the starts after them
+unfoldable pub startsAfter : List (List ℕ) → ℕ → List ℕ → ℕ → List ℕ
+startsAfter table fours old zero = old
+startsAfter table fours old (suc k) = roundOf table (startsAfter table fours old k) (4 * fours)
+
+-- whether the last of them changed nothing
+unfoldable pub settled : List (List ℕ) → ℕ → List ℕ → ℕ → Bool
+settled table fours old zero = false
+settled table fours old (suc k) = sameTo (startsAfter table fours old k) (startsAfter table fours old (suc k)) 24
+
+-- what they leave: the starts after them, the latency of these, and whether the last of them changed nothing
+unfoldable pub roundsOf : List (List ℕ) → List ℕ → ℕ → List ℕ → ℕ → Least
+roundsOf table ticks fours old k =
+    let starts = startsAfter table fours old k in
+    record { starts = starts; latency = latencyOf ticks starts 24; found = settled table fours old k }

@@ -18,9 +18,10 @@ pub fn read_delays_met(batch: Batch, delays: Delays) -> bool
     let to = delays.to;
     let code = delays.code;
     let none = [0u16; 1024];
+    let ticks = [0u8; 24];
     let n = wide(batch.n);
     let m = wide(batch.m);
-    let least = least_starts(n, m, &from, &to, &code, &none, &none, 0);
+    let least = least_starts(n, m, &from, &to, &code, &ticks, 0, &none, &none, 0);
     least.found
 }
 

@@ -1,18 +1,12 @@
 // Rounds over the table: each start after k rounds comes from the starts after k − 1. A round takes the table four rows at a time: that is as
 // much as it takes for the compiler to work on whole rows, and rows past n are empty, so they change nothing.
-use crate::Least;
+use crate::latency::larger;
+use crate::latency::latency_of;
 ghost use mathlib.Core.Path.{_≡_};
-ghost use Prim.Native.Nat.{_+_, _*_, _-_, _≤_, _<_, max};
-ghost use Rattle.starts.specs.Rounds.{Small, SmallRows, Lifted, sumAt, liftedOf, loweredOf, fourRaised, roundOf, sameTo, leastFrom};
-
-fn larger(a: u16, b: u16) -> u16
-    ensures { λ r. ⌜ r ≡ max a b ⌝ }
-{
-    if a < b {
-        return b;
-    }
-    a
-}
+ghost use Prim.Native.Nat.{_+_, _*_, _-_, _≤_, _<_};
+ghost use lib.ListN.{length};
+ghost use Rattle.starts.specs.Rounds.{Small, SmallRows, Lifted, sumAt, liftedOf, loweredOf, fourRaised, roundOf, sameTo, roundsOf};
+ghost use Rattle.starts.specs.Latency.{latencyOf};
 
 // Each start plus 30,000, as the table's weights are.
 fn lifted(old: &[u16; 24]) -> [u16; 24]
@@ -99,25 +93,43 @@ fn same(a: &[u16; 24], b: &[u16; 24]) -> bool
     true
 }
 
-// At most k rounds more. A round that changes nothing ends them; if the last one still changes something, there are no least starts.
-pub fn rounds(table: &[[u16; 24]; 24], old: [u16; 24], fours: usize, k: usize) -> Least
+// What rounds leave beside the starts: the latency of these, and whether the last round changed nothing.
+pub struct Risen {
+    pub latency: u16,
+    pub found: bool,
+}
+
+// k rounds more, in place: the starts become those after k rounds, and the latency stays theirs from round to round. A round that changes
+// nothing ends them, since no later one would change anything.
+pub fn rounds(
+    table: &[[u16; 24]; 24],
+    ticks: &[u8; 24],
+    starts: &mut [u16; 24],
+    latency: u16,
+    fours: usize,
+    k: usize,
+) -> Risen
     requires { ⌜ (fours ≤ 6) × (k ≤ 24) ⌝ }
-    requires { ⌜ SmallRows (now table) ⌝ }
-    requires { ⌜ Small old (1000 * (24 - k)) ⌝ }
-    ensures { λ r. ⌜ r ≡ leastFrom (now (table .entry)) old fours k ⌝ }
+    requires { ⌜ SmallRows (now table) × Small (now ticks) 16 ⌝ }
+    requires { ⌜ (length (now starts) ≡ 24) × Small (now starts) (1000 * (24 - k)) ⌝ }
+    requires { ⌜ latency ≡ latencyOf (now ticks) (now starts) 24 ⌝ }
+    ensures { λ r. ⌜ record { starts = now (starts .exit); latency = r .latency; found = r .found } ≡ roundsOf (now (table .entry)) (now (ticks .entry)) fours (now (starts .entry)) k ⌝ }
 {
     if k == 0 {
-        return Least {
-            starts: [0u16; 24],
+        return Risen {
+            latency,
             found: false,
         };
     }
+    let old = *starts;
     let new = round(table, old, fours);
     if same(&old, &new) {
-        return Least {
-            starts: old,
+        return Risen {
+            latency,
             found: true,
         };
     }
-    rounds(table, new, fours, k - 1)
+    *starts = new;
+    let risen = latency_of(ticks, &new);
+    rounds(table, ticks, starts, risen, fours, k - 1)
 }
