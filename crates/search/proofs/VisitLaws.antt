@@ -1,6 +1,6 @@
 -- The cases of a node: what least starts, latency and the first met clash say together is the definitions' next place.
 use Prim.Native.Nat.{ℕ, _+_, _-_, _*_, _/_, _%_, _≤_, _<_}
-use mathlib.Core.Path.{_≡_, refl, ap, sym, _∙_, subst}
+use mathlib.Core.Path.{_≡_, refl, ap, sym, _∙_}
 use mathlib.Core.Bool.{Bool, true, false}
 use mathlib.Core.List.{List, [], _∷_, _++_}
 use mathlib.Core.Option.{Option, none, some}
@@ -17,7 +17,6 @@ use Rattle.model.specs.Plan.{latency}
 use Rattle.model.specs.Clash.{clashes}
 use Rattle.model.specs.Starts.{rounds, firstStarts, leastStarts}
 use Rattle.model.specs.Search.{Place, inequalities, startsAt, firstMet, back, prunes, becomeBest, branch, visit, next}
-use Rattle.model.proofs.BoolLaws.{apart}
 use Rattle.model.proofs.SeqLaws.{pad-at}
 use Rattle.model.proofs.GoodLaws.{good-room}
 use Rattle.model.proofs.NodeLaws.{met-first, met-new}

@@ -1,6 +1,5 @@
 -- `rounds` meets its contract, by recursion on the falling round number k. With k of 24 rounds left no start is above 1,000 * (24 − k), so that
 -- the sums of the next round fit sixteen bits. Each call asks of the next that the latency is that of its starts.
-use borrow.Author.Needs.{needs}
 use native.Mathlib.Omega.{arith}
 use Rattle.starts.proofs.FillLaws.{small-more}
 use Rattle.starts.proofs.RoundLaws.{rounds-none, rounds-end, rounds-more, next-long, next-small}
