@@ -27,6 +27,10 @@ pub rebuilt-is : (b : Batch) (total : ℕ) (turns : List ℕ) (walk : Walk) (pat
 unfolding searchOf placeAt
 rebuilt-is b total turns walk path e = ap (λ (p : List Turn). record { batch = b; path = p; best = walk .best; starts = walk .starts; total = total; ended = walk .ended }) e
 
+-- the ticks that the longest job is found from
+pub first-ticks : (s : Search) (x : Examined) → sound s ≡ true → Prepared s x → Small (x .ticks) 16
+first-ticks s x e p = rw (p .ticks) (passing-ticks (s .batch) (record-passes s e))
+
 module _ (s : Search) (x : Examined) (e : sound s ≡ true) (o : s .ended ≡ false) (p : Prepared s x) (l : length (x .turns) ≡ 1024) where
   -- where the nodes start from
   abbrev pub first : Walk
@@ -36,10 +40,6 @@ module _ (s : Search) (x : Examined) (e : sound s ≡ true) (o : s .ended ≡ fa
   place-first =
       ap (λ (q : Bool). placeAt (x .turns) (record { depth = x .depth; best = s .best; starts = s .starts; ended = q })) (sym o)
       ∙ place-held s e (x .turns) (x .depth) (p .path .whole) (p .path .each)
-
-  -- what the longest job is found from
-  pub first-ticks : Small (x .ticks) 16
-  first-ticks = rw (p .ticks) (passing-ticks (s .batch) (record-passes s e))
 
   pub first-works : (n m most : ℕ) → n ≡ s .batch .n → m ≡ s .batch .m → most ≡ longestOf (x .ticks) → Works (s .batch) (record { jobs = n; delays = m; clashes = x .clashes .count; longest = most }) (x .delays .from) (x .delays .to) (x .delays .code) (x .ticks) (x .clashes .codes) (x .turns) first
   first-works n m most h g k =

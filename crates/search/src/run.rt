@@ -13,7 +13,7 @@ use model::Tally;
 use model::wide;
 use soundness::Examined;
 use soundness::examine;
-use starts::latency::latency_of;
+use starts::delays::longest_of;
 ghost use mathlib.Core.Path.{_≡_};
 ghost use mathlib.Core.Bool.{true, false, not, _||_};
 ghost use lib.Dec.{leb};
@@ -44,7 +44,7 @@ fn rebuilt(batch: Batch, turns: &[u16; 1024], walked: Walked) -> Search
     }
 }
 
-// A sound record that has not ended, after the budget's nodes. What they work on was examined.
+// A sound record that has not ended, after the budget's nodes. What they work on was examined, and the longest job is found here.
 fn advance(search: Search, examined: Examined, budget: u32) -> Search
     requires { ⌜ (sound search ≡ true) × (search .ended ≡ false) ⌝ }
     requires { ⌜ search .total + budget ≤ 100000000 ⌝ }
@@ -66,7 +66,7 @@ fn advance(search: Search, examined: Examined, budget: u32) -> Search
         jobs: wide(batch.n),
         delays: wide(batch.m),
         clashes: clashes.count,
-        longest: latency_of(&ticks, &[0u16; 24]),
+        longest: longest_of(&ticks),
     };
     let start = Walk {
         depth: examined.depth,

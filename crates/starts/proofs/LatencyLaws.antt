@@ -13,7 +13,7 @@ use Rattle.model.specs.Plan.{start, finish, latency}
 use Rattle.starts.specs.Rounds.{Small}
 use Rattle.starts.specs.Delays.{ticksRead}
 use Rattle.starts.specs.Latency.{latencyOf, longestOf}
-use Rattle.model.proofs.SeqLaws.{listed-snoc, pad-at}
+use Rattle.model.proofs.SeqLaws.{listed-snoc, listed-cong, blanks-at, pad-at}
 use Rattle.starts.proofs.FillLaws.{filled-at, filled-past}
 
 -- ---- the code's loop
@@ -34,6 +34,12 @@ module _ (ps ss : List ℕ) where
   latency-rest n z (suc k) =
       let e : suc k + n ≡ suc (k + n) = omega arith in
       ap (latencyOf ps ss) e ∙ omega (arith, latency-rest n z k, z (k + n) (omega arith))
+
+-- later starts, no smaller latency
+pub latency-mono : (ps a b : List ℕ) (k : ℕ) → ((j : ℕ) → j < k → getD a j 0 ≤ getD b j 0) → latencyOf ps a k ≤ latencyOf ps b k
+unfolding latencyOf
+latency-mono ps a b zero h = omega arith
+latency-mono ps a b (suc k) h = omega (arith, latency-mono ps a b k (λ j p. h j (omega arith)), h k (omega arith))
 
 -- without ticks it is 0
 pub longest-none : 0 ≡ longestOf (replicate 24 0)
@@ -81,10 +87,21 @@ module _ (b : Batch) (few : b .n ≤ 24) (ss : List ℕ) where
   unfolding latency
   latency-law ts h = latency-to ts h (b .n) (omega arith)
 
--- places past n add nothing, so that all 24 may be taken
-pub latency-padded : (b : Batch) → b .n ≤ 24 → (ts : List ℕ) → length ts ≡ b .n → latencyOf (ticksRead b) (pad 24 0 ts) 24 ≡ latency b ts
-latency-padded b few ts l =
-    let e : 24 ≡ 24 - b .n + b .n = omega arith in
-    ap (latencyOf (ticksRead b) (pad 24 0 ts)) e
-    ∙ latency-rest (ticksRead b) (pad 24 0 ts) (b .n) (λ i p. omega (arith, ticks-past b i p, pad-at 24 0 ts i, List·getD-eq-default ts 0 {n = i} (omega arith))) (24 - b .n)
-    ∙ latency-law b few (pad 24 0 ts) ts (λ i p. pad-at 24 0 ts i)
+module _ (b : Batch) (few : b .n ≤ 24) where
+  -- places past n add nothing, so that all 24 may be taken
+  latency-whole : (ss ts : List ℕ) → ((i : ℕ) → getD ss i 0 ≡ getD ts i 0) → length ts ≤ b .n → latencyOf (ticksRead b) ss 24 ≡ latency b ts
+  latency-whole ss ts h l =
+      let e : 24 ≡ 24 - b .n + b .n = omega arith in
+      ap (latencyOf (ticksRead b) ss) e
+      ∙ latency-rest (ticksRead b) ss (b .n) (λ i p. omega (arith, ticks-past b i p, h i, List·getD-eq-default ts 0 {n = i} (omega arith))) (24 - b .n)
+      ∙ latency-law b few ss ts (λ i p. h i)
+
+  pub latency-padded : (ts : List ℕ) → length ts ≡ b .n → latencyOf (ticksRead b) (pad 24 0 ts) 24 ≡ latency b ts
+  latency-padded ts l = latency-whole (pad 24 0 ts) ts (pad-at 24 0 ts) (omega arith)
+
+  -- the latency of starts that are all 0 is the longest job's ticks
+  pub longest-is : longestOf (ticksRead b) ≡ foldr max 0 (map (ticks b) (count 0 (b .n)))
+  unfolding longestOf latency finish start
+  longest-is =
+      latency-whole (replicate 24 0) [] (λ i. blanks-at {A = ℕ} 24 i 0) (omega arith)
+      ∙ ap (foldr max 0) (listed-cong (λ i. finish b i (start [] i)) (ticks b) (b .n) (λ i p. omega arith))

@@ -1,5 +1,5 @@
 -- What a caller wants to know: where the arrays hold a batch's delays and a path's turns, they meet what `least_starts` asks, its table
--- is the definition's table, and its answer is the definition's least starts.
+-- is the definition's table, after every round its starts and their latency are the definition's, and its answer is the definition's least starts.
 use mathlib.Core.Path.{_≡_, refl, sym, _∙_, ap}
 use mathlib.Core.Bool.{Bool, true, false}
 use mathlib.Core.Option.{Option, none, some}
@@ -14,25 +14,24 @@ use Rattle.model.specs.declared.Batch.{Batch}
 use Rattle.model.specs.declared.Turn.{Turn}
 use Rattle.model.specs.Common.{if_then_else_, count, pad, isSome}
 use Rattle.model.specs.Batch.{delayOf, delaysOf}
-use Rattle.model.specs.Plan.{start, latency}
+use Rattle.model.specs.Plan.{latency}
 use Rattle.model.specs.Clash.{Clash}
 use Rattle.model.specs.Starts.{entry, table, rounds, same, firstStarts, leastStarts}
 use Rattle.model.specs.Search.{noClash, sideOf, turned, inequalities, empty}
-use Rattle.model.proofs.StartsLaws.{after-rises}
-use Rattle.model.proofs.NodeLaws.{latency-mono}
 use Rattle.model.proofs.SeqLaws.{map-snoc, listed-snoc, listed-at, listed-length}
 use Rattle.clashes.specs.Code.{codeOf}
 use Rattle.clashes.specs.First.{Named}
 use Rattle.starts.specs.declared.Least.{Least}
 use Rattle.starts.specs.Code.{coded, placeCode, ClashFits}
 use Rattle.starts.specs.Table.{putIn, turnIn, withDelays, withTurns, emptyTable, DelaysFit, TurnsFit}
-use Rattle.starts.specs.Rounds.{roundsOf}
+use Rattle.starts.specs.Rounds.{latencyAfter, roundsOf}
 use Rattle.starts.specs.Delays.{ticksRead}
-use Rattle.starts.specs.Latency.{latencyOf}
+use Rattle.starts.specs.Latency.{latencyOf, longestOf}
 use Rattle.starts.specs.Least.{leastOf, leastAs, HoldsDelays, HoldsTurns}
 use Rattle.starts.proofs.CodeLaws.{coded-most, clash-i, clash-j, clash-d, side0-code, side0-limited, side1-code, side1-limited}
 use Rattle.starts.proofs.TableLaws.{turn-side0, turn-side1}
 use Rattle.starts.proofs.PlaceLaws.{codeAt, Tabled, empty-tabled, put-tabled}
+use Rattle.starts.proofs.RoundLaws.{rounds-are}
 use Rattle.starts.proofs.RaisedLaws.{rounds-length}
 use Rattle.starts.proofs.LatencyLaws.{latency-padded}
 use Rattle.starts.proofs.SettledLaws.{after, after-is, settled-is}
@@ -109,7 +108,7 @@ module _ (n : ℕ) (few : n ≤ 24) (cs : List Clash) (ts : List Turn) (clashes 
       (u .side) (getD turns k 0) (getD clashes (getD turns k 0 / 2) 0) (h .side k l) (omega (arith, h .turn k l, h .side k l)) (code-is k l))
 
 -- the table that is filled from the delays and the turns holds the path's inequalities
-pub path-tabled : (b : Batch) (cs : List Clash) (ts : List Turn) (froms tos codes clashes turns : List ℕ) → b .n ≤ 24 → HoldsDelays b froms tos codes → HoldsTurns (b .n) cs ts clashes turns
+path-tabled : (b : Batch) (cs : List Clash) (ts : List Turn) (froms tos codes clashes turns : List ℕ) → b .n ≤ 24 → HoldsDelays b froms tos codes → HoldsTurns (b .n) cs ts clashes turns
     → Tabled (b .n) (withTurns clashes turns (withDelays froms tos codes emptyTable (b .m)) (length ts)) (inequalities cs b ts)
 unfolding inequalities delaysOf
 path-tabled b cs ts froms tos codes clashes turns few hd ht =
@@ -153,38 +152,31 @@ fours-high n h = omega arith
 
 -- the rounds of the code, over any table that holds a list of inequalities
 module _ (b : Batch) (few : b .n ≤ 24) (t : List (List ℕ)) (qs : List Delay) (h : Tabled (b .n) t qs) where
-  -- what k rounds leave
+  -- what k rounds leave, from starts that are all 0
   abbrev left : List ℕ → ℕ → Least
-  left ticks k = roundsOf t ticks ((b .n + 3) / 4) (replicate 24 0) k
+  left ticks k = roundsOf t ticks ((b .n + 3) / 4) (replicate 24 0) (longestOf ticks) k
 
-  -- after every round, from 0 on, the starts are the definition's
-  pub round-starts : (ticks : List ℕ) (k : ℕ) → k ≤ b .n → left ticks k .starts ≡ pad 24 0 (after (b .n) qs k)
+  round-starts : (ticks : List ℕ) (k : ℕ) → k ≤ b .n → left ticks k .starts ≡ pad 24 0 (after (b .n) qs k)
   unfolding roundsOf
   round-starts ticks k p = after-is (b .n) few t qs h _ (fours-low (b .n)) (fours-high (b .n) few) k p
 
-  -- and the running latency is that of these starts
-  pub round-latency : (k : ℕ) → k ≤ b .n → left (ticksRead b) k .latency ≡ latency b (after (b .n) qs k)
-  unfolding roundsOf
+  round-latency : (k : ℕ) → k ≤ b .n → left (ticksRead b) k .latency ≡ latency b (after (b .n) qs k)
+  unfolding longestOf
   round-latency k p =
-      ap (λ (l : List ℕ). latencyOf (ticksRead b) l 24) (after-is (b .n) few t qs h _ (fours-low (b .n)) (fours-high (b .n) few) k p)
+      ap (λ (l : Least). l .latency) (rounds-are t _ (ticksRead b) (replicate 24 0) _ refl k)
+      ∙ ap (λ (l : List ℕ). latencyOf (ticksRead b) l 24) (after-is (b .n) few t qs h _ (fours-low (b .n)) (fours-high (b .n) few) k p)
       ∙ latency-padded b few (after (b .n) qs k) (rounds-length (b .n) qs k)
 
-  -- so it rises with them
-  pub latency-rises : (k : ℕ) → suc k ≤ b .n → left (ticksRead b) k .latency ≤ left (ticksRead b) (suc k) .latency
-  unfolding start Rattle.model.proofs.StartsLaws.after
-  latency-rises k p =
-      rw (round-latency k (omega arith), round-latency (suc k) p)
-      (latency-mono b (after (b .n) qs k) (after (b .n) qs (suc k)) (λ j. after-rises qs (firstStarts (b .n)) k j))
-
-  -- round n changes nothing where the definition's does not
-  pub round-found : (ticks : List ℕ) → 1 ≤ b .n → left ticks (b .n) .found ≡ same (after (b .n) qs (b .n)) (after (b .n) qs (pred (b .n)))
+  round-found : (ticks : List ℕ) → 1 ≤ b .n → left ticks (b .n) .found ≡ same (after (b .n) qs (b .n)) (after (b .n) qs (pred (b .n)))
   unfolding roundsOf
   round-found ticks one = settled-is (b .n) few t qs h _ (fours-low (b .n)) (fours-high (b .n) few) one
 
--- 02, Q-2: after every round of a node, from 0 on, whether or not there are least starts in the end, the running value is the latency of that
--- round's starts; after 0 rounds it is the longest job's ticks
+-- 02, Q-2: after every round of a node, from 0 on, the running latency (the longest job's ticks, raised by each round's starts) is the latency of
+-- that round's starts, whether or not there are least starts in the end
 pub every-round : (b : Batch) (cs : List Clash) (ts : List Turn) (froms tos codes clashes turns : List ℕ) → b .n ≤ 24 → HoldsDelays b froms tos codes → HoldsTurns (b .n) cs ts clashes turns → (k : ℕ) → k ≤ b .n
-    → roundsOf (withTurns clashes turns (withDelays froms tos codes emptyTable (b .m)) (length ts)) (ticksRead b) ((b .n + 3) / 4) (replicate 24 0) k .latency ≡ latency b (rounds (inequalities cs b ts) (firstStarts (b .n)) k)
+    → latencyAfter (withTurns clashes turns (withDelays froms tos codes emptyTable (b .m)) (length ts)) (ticksRead b) ((b .n + 3) / 4) (replicate 24 0) (longestOf (ticksRead b)) k
+    ≡ latency b (rounds (inequalities cs b ts) (firstStarts (b .n)) k)
+unfolding roundsOf
 every-round b cs ts froms tos codes clashes turns few hd ht k p =
     round-latency b few _ _ (path-tabled b cs ts froms tos codes clashes turns few hd ht) k p
 

@@ -6,6 +6,7 @@ use native.Mathlib.Omega.{arith}
 use lib.ListN.{replicate}
 use Rattle.starts.specs.declared.Least.{Least}
 use Rattle.starts.specs.Rounds.{SmallRows, roundsOf}
+use Rattle.starts.specs.Latency.{longestOf}
 use Rattle.starts.specs.Table.{withDelays, withTurns, emptyTable, DelaysFit}
 use Rattle.starts.specs.Least.{leastOf}
 use Rattle.starts.proofs.TableLaws.{empty-small, delays-small, turns-small}
@@ -14,6 +15,6 @@ module _ (m : ℕ) (froms tos codes clashes turns : List ℕ) (depth : ℕ) (t u
   pub table-small : DelaysFit froms tos codes m → SmallRows u
   table-small f = rw (q, p) (turns-small clashes turns _ depth (delays-small froms tos codes emptyTable m m f (omega arith) empty-small))
 
-  pub least-is : (n : ℕ) (ticks : List ℕ) (r : Least) → r ≡ roundsOf u ticks ((n + 3) / 4) (replicate 24 0) n → r ≡ leastOf n m froms tos codes ticks clashes turns depth
+  pub least-is : (n longest : ℕ) (ticks : List ℕ) → longest ≡ longestOf ticks → (r : Least) → r ≡ roundsOf u ticks ((n + 3) / 4) (replicate 24 0) longest n → r ≡ leastOf n m froms tos codes ticks clashes turns depth
   unfolding leastOf
-  least-is n ticks r e = rw (e, q, p)
+  least-is n longest ticks l r e = rw (e, q, p, l)

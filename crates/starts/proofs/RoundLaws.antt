@@ -1,4 +1,4 @@
--- Rounds as the code takes them: four rows, one round, one round more, and no start rises by more than 1,000 in a round.
+-- Rounds as the code takes them: four rows, one round, k rounds that may end early, and no start rises by more than 1,000 in a round.
 use mathlib.Core.Path.{_≡_, refl, sym, _∙_, ap}
 use mathlib.Core.Bool.{Bool, true, false}
 use mathlib.Core.List.{List}
@@ -14,8 +14,9 @@ use lib.Seq.{ext-getD}
 use borrow.Author.Tests.{eqb-true, eq-eqb}
 use Rattle.model.proofs.BoolLaws.{both, and-false}
 use Rattle.starts.specs.declared.Least.{Least}
-use Rattle.starts.specs.Rounds.{Small, SmallRows, Lifted, sumAt, largest, startOf, roundOf, raisedTo, liftedOf, loweredOf, fourRaised, sameTo, startsAfter, settled, roundsOf}
-use Rattle.starts.specs.Latency.{latencyOf}
+use Rattle.starts.specs.Rounds.{Small, SmallRows, Lifted, sumAt, largest, startOf, roundOf, raisedTo, liftedOf, loweredOf, fourRaised, sameTo, startsAfter, latencyAfter, settled, roundsOf}
+use Rattle.starts.specs.Latency.{latencyOf, raisedBy}
+use Rattle.starts.proofs.LatencyLaws.{latency-mono}
 use Rattle.starts.proofs.FillLaws.{filled-length, filled-at, filled-cong, filled-small, small-more}
 
 -- ---- one start
@@ -137,6 +138,13 @@ same-is a b k p q e = ext-getD 0 a b (p ∙ sym q) (λ i h. same-at a b k e i (o
 
 -- ---- k rounds: the first and then the others, as the code has them
 
+-- a round lowers no start, and so no latency
+pub latency-rises : (table : List (List ℕ)) (ticks old : List ℕ) (k : ℕ) → latencyOf ticks old 24 ≤ latencyOf ticks (roundOf table old k) 24
+unfolding roundOf startOf
+latency-rises table ticks old k =
+    latency-mono ticks old _ 24
+    (λ j h. omega (arith, filled-at (λ j. largest table old j (getD old j 0 + 30000) k - 30000) 24 24 j (omega arith) h, largest-first table old j (getD old j 0 + 30000) k))
+
 module _ (table : List (List ℕ)) (fours : ℕ) where
   -- one round
   abbrev next : List ℕ → List ℕ
@@ -147,15 +155,11 @@ module _ (table : List (List ℕ)) (fours : ℕ) where
   after-first old zero = refl
   after-first old (suc k) = ap next (after-first old k)
 
-  settled-one : (old : List ℕ) → settled table fours old 1 ≡ sameTo old (next old) 24
-  unfolding settled startsAfter
-  settled-one old = refl
-
   -- where the first changes something, the last is the last of the others
   settled-first : (old : List ℕ) (k : ℕ) → sameTo old (next old) 24 ≡ false → settled table fours old (suc k) ≡ settled table fours (next old) k
-  unfolding settled
-  settled-first old zero h = settled-one old ∙ h
-  settled-first old (suc k) h = rw (after-first old k, after-first old (suc k))
+  unfolding settled startsAfter
+  settled-first old zero h = h
+  settled-first old (suc k) h = rw (after-first old k)
 
   -- no round changes anything after one that changed nothing
   after-stays : (old : List ℕ) → old ≡ next old → (k : ℕ) → startsAfter table fours old k ≡ old
@@ -167,38 +171,53 @@ module _ (table : List (List ℕ)) (fours : ℕ) where
   unfolding settled
   settled-stays old e k = rw (after-stays old e k, after-stays old e (suc k)) (same-self old 24)
 
-  -- the new starts and the test are results of calls, and the latency is that of the starts
+  -- what is handed on after a round
+  module _ (old new : List ℕ) (e : new ≡ next old) where
+    pub next-long : length new ≡ 24
+    unfolding roundOf
+    next-long = rw e (filled-length (λ j. startOf table old j (4 * fours)) 24 24)
+
+    pub next-small : (k : ℕ) → (k ≡ 0 → ⊥) → k ≤ 24 → SmallRows table → Small old (1000 * (24 - k)) → Small new (1000 * (24 - (k - 1)))
+    next-small k more b p q = rw e (small-more _ _ _ (omega arith) (round-small table old (4 * fours) _ p q))
+
+    pub next-latency : (ticks : List ℕ) (latency risen : ℕ) → latency ≡ latencyOf ticks old 24 → risen ≡ raisedBy ticks new latency → risen ≡ latencyOf ticks new 24
+    unfolding raisedBy
+    next-latency ticks latency risen l h = h ∙ rw (l, e) (omega (arith, latency-rises table ticks old (4 * fours)))
+
+  -- after every round the running latency is that of the starts
+  module _ (ticks old : List ℕ) (latency : ℕ) (l : latency ≡ latencyOf ticks old 24) where
+    after-latency : (k : ℕ) → latencyAfter table ticks fours old latency k ≡ latencyOf ticks (startsAfter table fours old k) 24
+    unfolding latencyAfter startsAfter
+    after-latency zero = l
+    after-latency (suc k) = next-latency (startsAfter table fours old k) _ refl ticks _ _ (after-latency k) refl
+
+    pub rounds-are : (k : ℕ) → roundsOf table ticks fours old latency k ≡ record { starts = startsAfter table fours old k; latency = latencyOf ticks (startsAfter table fours old k) 24; found = settled table fours old k }
+    unfolding roundsOf
+    rounds-are k = rw (after-latency k)
+
+  -- the cases of the code; the new starts, the test and the risen latency are results of calls
   module _ (ticks old : List ℕ) (k latency : ℕ) (l : latency ≡ latencyOf ticks old 24) where
-    pub rounds-none : k ≡ 0 → record { starts = old; latency = latency; found = false } ≡ roundsOf table ticks fours old k
-    unfolding roundsOf startsAfter settled
-    rounds-none h = rw (h, l)
+    pub rounds-none : k ≡ 0 → record { starts = old; latency = latency; found = false } ≡ roundsOf table ticks fours old latency k
+    unfolding roundsOf startsAfter latencyAfter settled
+    rounds-none h = rw h
 
     module _ (new : List ℕ) (r : Bool) (more : k ≡ 0 → ⊥) (e : new ≡ next old) (s : r ≡ sameTo old new 24) where
-      pub next-long : length new ≡ 24
-      unfolding roundOf
-      next-long = rw e (filled-length (λ j. startOf table old j (4 * fours)) 24 24)
-
-      pub rounds-end : length old ≡ 24 → r ≡ true → record { starts = old; latency = latency; found = true } ≡ roundsOf table ticks fours old k
-      unfolding roundsOf
+      pub rounds-end : length old ≡ 24 → r ≡ true → record { starts = old; latency = latency; found = true } ≡ roundsOf table ticks fours old latency k
       rounds-end h p = go k more
         where
           stays : old ≡ next old
-          stays = same-is old new 24 h next-long (sym s ∙ p) ∙ e
+          stays = same-is old new 24 h (next-long old new e) (sym s ∙ p) ∙ e
 
-          go : (k : ℕ) → (k ≡ 0 → ⊥) → record { starts = old; latency = latency; found = true } ≡ roundsOf table ticks fours old k
+          go : (k : ℕ) → (k ≡ 0 → ⊥) → record { starts = old; latency = latency; found = true } ≡ roundsOf table ticks fours old latency k
           go zero z = absurd (z refl)
-          go (suc k) z = rw (after-stays old stays (suc k), settled-stays old stays k, l)
+          go (suc k) z = rw (rounds-are ticks old latency l (suc k), after-stays old stays (suc k), settled-stays old stays k, l)
 
-      pub rounds-more : r ≡ false → (x : Least) → x ≡ roundsOf table ticks fours new (k - 1) → x ≡ roundsOf table ticks fours old k
-      unfolding roundsOf
-      rounds-more p x q = q ∙ go k more
+      pub rounds-on : r ≡ false → (risen : ℕ) → risen ≡ raisedBy ticks new latency → (x : Least) → x ≡ roundsOf table ticks fours new risen (k - 1) → x ≡ roundsOf table ticks fours old latency k
+      rounds-on p risen h x q = q ∙ rounds-are ticks new risen (next-latency old new e ticks latency risen l h) (k - 1) ∙ go k more
         where
           changed : sameTo old (next old) 24 ≡ false
           changed = rw (← e) (sym s ∙ p)
 
-          go : (k : ℕ) → (k ≡ 0 → ⊥) → roundsOf table ticks fours new (k - 1) ≡ roundsOf table ticks fours old k
+          go : (k : ℕ) → (k ≡ 0 → ⊥) → record { starts = startsAfter table fours new (k - 1); latency = latencyOf ticks (startsAfter table fours new (k - 1)) 24; found = settled table fours new (k - 1) } ≡ roundsOf table ticks fours old latency k
           go zero z = absurd (z refl)
-          go (suc k) z = rw (e, sub-one (suc k), after-first old k, settled-first old k changed)
-
-      pub next-small : k ≤ 24 → SmallRows table → Small old (1000 * (24 - k)) → Small new (1000 * (24 - (k - 1)))
-      next-small b p q = rw e (small-more _ _ _ (omega arith) (round-small table old (4 * fours) _ p q))
+          go (suc k) z = rw (rounds-are ticks old latency l (suc k), e, sub-one (suc k), after-first old k, settled-first old k changed)

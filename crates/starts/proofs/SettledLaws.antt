@@ -34,14 +34,14 @@ module _ (n : ℕ) (few : n ≤ 24) (t : List (List ℕ)) (qs : List Delay) (h :
       ∙ filled-rest (raised qs (after n qs k)) 24 n few (λ j b. raised-past n qs (h .fits) (after n qs k) j b ∙ List·getD-eq-default (after n qs k) 0 (omega (arith, rounds-length n qs k)))
       ∙ filled-is (raised qs (after n qs k)) 24 n few ∙ ap (pad 24 0) (sym (rounds-more n qs k))
     where
-      same-at : (i : ℕ) → getD (pad 24 0 (after n qs k)) i 0 ≡ getD (after n qs k) i 0
-      same-at i = pad-at 24 0 (after n qs k) i
+      padded : (i : ℕ) → getD (pad 24 0 (after n qs k)) i 0 ≡ getD (after n qs k) i 0
+      padded i = pad-at 24 0 (after n qs k) i
 
       start : (j : ℕ) → j < 24 → startOf t (pad 24 0 (after n qs k)) j (4 * fours) ≡ raised qs (after n qs k) j
       start j b =
-          start-raised n (pad 24 0 (after n qs k)) (λ i. omega (arith, same-at i, rounds-bound n qs (h .fits) k i)) j qs (h .fits) t (4 * fours) low
+          start-raised n (pad 24 0 (after n qs k)) (λ i. omega (arith, padded i, rounds-bound n qs (h .fits) k i)) j qs (h .fits) t (4 * fours) low
           (λ i c. h .place i j (omega arith) b)
-          ∙ raised-cong qs (pad 24 0 (after n qs k)) (after n qs k) same-at j
+          ∙ raised-cong qs (pad 24 0 (after n qs k)) (after n qs k) padded j
 
   -- and so are k of them, from 0
   pub after-is : (k : ℕ) → k ≤ n → startsAfter t fours (replicate 24 0) k ≡ pad 24 0 (after n qs k)

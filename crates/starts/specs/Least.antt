@@ -16,12 +16,13 @@ use Rattle.clashes.specs.Code.{codeOf}
 use Rattle.starts.specs.declared.Least.{Least}
 use Rattle.starts.specs.Code.{Limited, coded, ClashFits}
 use Rattle.starts.specs.Rounds.{roundsOf}
+use Rattle.starts.specs.Latency.{longestOf}
 use Rattle.starts.specs.Table.{withDelays, withTurns, emptyTable}
 
 -- the least starts of the first m delays and the first depth turns, over n jobs
 unfoldable pub leastOf : ℕ → ℕ → List ℕ → List ℕ → List ℕ → List ℕ → List ℕ → List ℕ → ℕ → Least
 leastOf n m from to code ticks clashes turns depth =
-    roundsOf (withTurns clashes turns (withDelays from to code emptyTable m) depth) ticks ((n + 3) / 4) (replicate 24 0) n
+    roundsOf (withTurns clashes turns (withDelays from to code emptyTable m) depth) ticks ((n + 3) / 4) (replicate 24 0) (longestOf ticks) n
 
 -- the same as the definitions have it: the starts after n rounds, their latency, and whether they are least starts
 unfoldable pub leastAs : Batch → List Delay → Least

@@ -5,7 +5,7 @@ use mathlib.Core.List.{List, []}
 use lib.ListN.{getD, set, replicate}
 use lib.Dec.{eqb}
 use Rattle.starts.specs.declared.Least.{Least}
-use Rattle.starts.specs.Latency.{latencyOf}
+use Rattle.starts.specs.Latency.{raisedBy}
 
 -- every number of the list is at most the bound
 pub record Small (l : List ℕ) (bound : ℕ) : Type 0 where
@@ -70,13 +70,17 @@ unfoldable pub startsAfter : List (List ℕ) → ℕ → List ℕ → ℕ → Li
 startsAfter table fours old zero = old
 startsAfter table fours old (suc k) = roundOf table (startsAfter table fours old k) (4 * fours)
 
--- whether the last of them changed nothing
+-- the running latency, from that of the old starts on: each round's starts raise it
+unfoldable pub latencyAfter : List (List ℕ) → List ℕ → ℕ → List ℕ → ℕ → ℕ → ℕ
+latencyAfter table ticks fours old latency zero = latency
+latencyAfter table ticks fours old latency (suc k) = raisedBy ticks (startsAfter table fours old (suc k)) (latencyAfter table ticks fours old latency k)
+
+-- whether the last of them changed nothing; where there is none, no
 unfoldable pub settled : List (List ℕ) → ℕ → List ℕ → ℕ → Bool
 settled table fours old zero = false
 settled table fours old (suc k) = sameTo (startsAfter table fours old k) (startsAfter table fours old (suc k)) 24
 
--- what they leave: the starts after them, the latency of these, and whether the last of them changed nothing
-unfoldable pub roundsOf : List (List ℕ) → List ℕ → ℕ → List ℕ → ℕ → Least
-roundsOf table ticks fours old k =
-    let starts = startsAfter table fours old k in
-    record { starts = starts; latency = latencyOf ticks starts 24; found = settled table fours old k }
+-- what they leave
+unfoldable pub roundsOf : List (List ℕ) → List ℕ → ℕ → List ℕ → ℕ → ℕ → Least
+roundsOf table ticks fours old latency k =
+    record { starts = startsAfter table fours old k; latency = latencyAfter table ticks fours old latency k; found = settled table fours old k }

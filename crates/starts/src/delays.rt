@@ -1,4 +1,5 @@
-// A batch's delays as plain parallel arrays, and its jobs' ticks: what a search copies out of the batch once.
+// A batch's delays as plain parallel arrays, its jobs' ticks and the longest of these: what a run works out once.
+use crate::latency::raised_latency;
 use delay_array::array_columns;
 use delay_list::delay_at;
 use limits::delay_ok;
@@ -7,6 +8,8 @@ use model::wide;
 ghost use mathlib.Core.Path.{_≡_};
 ghost use Prim.Native.Nat.{_≤_};
 ghost use Rattle.starts.specs.Code.{Limited, coded};
+ghost use Rattle.starts.specs.Rounds.{Small};
+ghost use Rattle.starts.specs.Latency.{longestOf};
 ghost use Rattle.starts.specs.Delays.{ReadsDelays, ticksRead};
 
 // The first m places count: from, to, and the weight plus 30,000. The others are 0.
@@ -76,4 +79,12 @@ pub fn ticks_of(batch: Batch) -> [u8; 24]
         i = i + 1;
     }
     ticks
+}
+
+// The ticks of the longest job: the latency of starts that are all 0.
+pub fn longest_of(ticks: &[u8; 24]) -> u16
+    requires { ⌜ Small (now ticks) 16 ⌝ }
+    ensures { λ r. ⌜ r ≡ longestOf (now (ticks .entry)) ⌝ }
+{
+    raised_latency(0, ticks, &[0u16; 24])
 }

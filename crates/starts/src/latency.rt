@@ -1,9 +1,9 @@
-// The latency of starts: the largest t_i + p_i. Past n both arrays hold 0, so that all 24 places may be taken: a loop of known length is
-// one that the compiler takes a whole row at a time.
+// The latency of starts, the largest t_i + p_i, as a value that starts raise. Past n both arrays hold 0, so that all 24 places may be taken: a
+// loop of known length is one that the compiler takes a whole row at a time.
 ghost use mathlib.Core.Path.{_≡_};
 ghost use Prim.Native.Nat.{max};
 ghost use Rattle.starts.specs.Rounds.{Small};
-ghost use Rattle.starts.specs.Latency.{latencyOf};
+ghost use Rattle.starts.specs.Latency.{raisedBy};
 
 pub fn larger(a: u16, b: u16) -> u16
     ensures { λ r. ⌜ r ≡ max a b ⌝ }
@@ -20,11 +20,12 @@ fn ticks_wide(x: u8) -> u16
     x as u16
 }
 
-pub fn latency_of(ticks: &[u8; 24], starts: &[u16; 24]) -> u16
+// The largest of a latency and the ends of these starts.
+pub fn raised_latency(latency: u16, ticks: &[u8; 24], starts: &[u16; 24]) -> u16
     requires { ⌜ Small (now ticks) 16 × Small (now starts) 24000 ⌝ }
-    ensures { λ r. ⌜ r ≡ latencyOf (now (ticks .entry)) (now (starts .entry)) 24 ⌝ }
+    ensures { λ r. ⌜ r ≡ raisedBy (now (ticks .entry)) (now (starts .entry)) latency ⌝ }
 {
-    let mut latest: u16 = 0;
+    let mut latest = latency;
     let mut i: usize = 0;
     while i < 24 {
         latest = larger(latest, starts[i] + ticks_wide(ticks[i]));

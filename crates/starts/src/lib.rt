@@ -11,7 +11,7 @@ ghost use Rattle.starts.specs.Latency.{longestOf};
 ghost use Rattle.starts.specs.Least.{leastOf};
 
 pub mod delays;
-pub mod latency;
+mod latency;
 pub mod met;
 mod rounds;
 mod table;
@@ -52,6 +52,6 @@ pub fn least_starts(
     Least {
         starts: starts,
         latency: risen.latency,
-        found: risen.found,
+        found: risen.settled,
     }
 }

@@ -8,7 +8,7 @@ ghost use mathlib.Core.Path.{_≡_};
 ghost use Rattle.model.specs.Open.{delaysMet};
 ghost use Rattle.starts.specs.Delays.{DelaysSound, delaysRead};
 
-// With the delays as they were read from the batch.
+// With the delays as they were read from the batch. Only whether there are least starts is asked, so the jobs may have no ticks.
 pub fn read_delays_met(batch: Batch, delays: Delays) -> bool
     requires { ⌜ DelaysSound batch ⌝ }
     requires { ⌜ delays ≡ delaysRead batch ⌝ }
@@ -18,10 +18,10 @@ pub fn read_delays_met(batch: Batch, delays: Delays) -> bool
     let to = delays.to;
     let code = delays.code;
     let none = [0u16; 1024];
-    let ticks = [0u8; 24];
+    let no_ticks = [0u8; 24];
     let n = wide(batch.n);
     let m = wide(batch.m);
-    let least = least_starts(n, m, &from, &to, &code, &ticks, 0, &none, &none, 0);
+    let least = least_starts(n, m, &from, &to, &code, &no_ticks, 0, &none, &none, 0);
     least.found
 }
 

@@ -1,7 +1,8 @@
 // Rounds over the table: each start after k rounds comes from the starts after k − 1. A round takes the table four rows at a time: that is as
-// much as it takes for the compiler to work on whole rows, and rows past n are empty, so they change nothing.
+// much as it takes for the compiler to work on whole rows, and rows past n are empty, so they change nothing. The latency goes along: each round
+// raises it by the new starts.
 use crate::latency::larger;
-use crate::latency::latency_of;
+use crate::latency::raised_latency;
 ghost use mathlib.Core.Path.{_≡_};
 ghost use Prim.Native.Nat.{_+_, _*_, _-_, _≤_, _<_};
 ghost use lib.ListN.{length};
@@ -96,11 +97,11 @@ fn same(a: &[u16; 24], b: &[u16; 24]) -> bool
 // What rounds leave beside the starts: the latency of these, and whether the last round changed nothing.
 pub struct Risen {
     pub latency: u16,
-    pub found: bool,
+    pub settled: bool,
 }
 
-// k rounds more, in place: the starts become those after k rounds, and the latency stays theirs from round to round. A round that changes
-// nothing ends them, since no later one would change anything.
+// k rounds more, in place: the starts become those after k rounds, and the latency is theirs before each round and after it. A round that
+// changes nothing ends them, since no later one would change anything.
 pub fn rounds(
     table: &[[u16; 24]; 24],
     ticks: &[u8; 24],
@@ -113,12 +114,12 @@ pub fn rounds(
     requires { ⌜ SmallRows (now table) × Small (now ticks) 16 ⌝ }
     requires { ⌜ (length (now starts) ≡ 24) × Small (now starts) (1000 * (24 - k)) ⌝ }
     requires { ⌜ latency ≡ latencyOf (now ticks) (now starts) 24 ⌝ }
-    ensures { λ r. ⌜ record { starts = now (starts .exit); latency = r .latency; found = r .found } ≡ roundsOf (now (table .entry)) (now (ticks .entry)) fours (now (starts .entry)) k ⌝ }
+    ensures { λ r. ⌜ record { starts = now (starts .exit); latency = r .latency; found = r .settled } ≡ roundsOf (now (table .entry)) (now (ticks .entry)) fours (now (starts .entry)) latency k ⌝ }
 {
     if k == 0 {
         return Risen {
             latency,
-            found: false,
+            settled: false,
         };
     }
     let old = *starts;
@@ -126,10 +127,10 @@ pub fn rounds(
     if same(&old, &new) {
         return Risen {
             latency,
-            found: true,
+            settled: true,
         };
     }
     *starts = new;
-    let risen = latency_of(ticks, &new);
+    let risen = raised_latency(latency, ticks, &new);
     rounds(table, ticks, starts, risen, fours, k - 1)
 }

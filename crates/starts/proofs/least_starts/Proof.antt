@@ -32,4 +32,5 @@ least-starts-spec =
     ))
     (λ c.
     let turns = c .before .before .before in
-    least-is _ _ _ _ _ _ _ _ _ (turns .before .before .fill-delays .ensures) (turns .fill-turns .ensures) _ _ _ (c .rounds .ensures)))
+    let delays = turns .before .before in
+    least-is _ _ _ _ _ _ _ _ _ (delays .fill-delays .ensures) (turns .fill-turns .ensures) _ _ _ (delays .before .before .pre .1 .1 .1 .1) _ (c .rounds .ensures)))

@@ -2,13 +2,13 @@
 -- the sums of the next round fit sixteen bits. Each call asks of the next that the latency is that of its starts.
 use native.Mathlib.Omega.{arith}
 use Rattle.starts.proofs.FillLaws.{small-more}
-use Rattle.starts.proofs.RoundLaws.{rounds-none, rounds-end, rounds-more, next-long, next-small}
+use Rattle.starts.proofs.RoundLaws.{rounds-none, rounds-end, rounds-on, next-long, next-small, next-latency}
 use Prim.Native.Nat.{ℕ, _<_}
 use borrow.Fn.PlainCycle.{Measures, is, falls, and}
 use Rattle.starts.proofs.rounds.rounds.Reads as rounds
 use Rattle.starts.proofs.rounds.rounds.Kinds as rounds-kinds
 use Rattle.starts.proofs.rounds.+rounds.Lts-rounds as rounds-lts
-use Rattle.starts.proofs.latency.latency_of.Reads as latency-of-reads
+use Rattle.starts.proofs.latency.raised_latency.Reads as raised-latency-reads
 use Rattle.starts.proofs.rounds.round.Reads as round-reads
 use Rattle.starts.proofs.rounds.same.Reads as same-reads
 use Rattle.starts.proofs.rounds.+rounds.{statement}
@@ -25,8 +25,8 @@ pub +rounds-spec : {M : Type 1} → statement M
       round-reads.Learnt,
       same-reads.Asked,
       same-reads.Learnt,
-      latency-of-reads.Asked,
-      latency-of-reads.Learnt,
+      raised-latency-reads.Asked,
+      raised-latency-reads.Learnt,
       and 3 rounds-kinds.ps (falls 3 rounds-kinds.ps _<_ μ-rounds t) rounds.Pre,
       rounds.Post,
     ) (and 3 rounds-kinds.ps (is 3 rounds-kinds.ps μ-rounds t) rounds.Pre) rounds.Post
@@ -42,12 +42,12 @@ pub +rounds-spec : {M : Type 1} → statement M
     let more = made .before .before in
     let pre = more .before .pre .1 in
     rounds-end _ _ _ _ _ _ (pre .1 .1 .1) _ _ (more .if1 .left) (made .round .ensures) (c .before .same .ensures) (pre .1 .1 .0 .0) (c .if2 .taken))
-    -- the latency of the new starts
+    -- the latency raised by the new starts
     (λ c κs.
     let made = c .before .before .before .before .before in
     let more = made .before .before in
     let pre = more .before .pre .1 in
-    let small = next-small _ _ _ _ _ _ (pre .1 .1 .1) _ _ (more .if1 .left) (made .round .ensures) (c .before .before .same .ensures) (pre .0 .1) (pre .1 .0 .0) (pre .1 .1 .0 .1) in
+    let small = next-small _ _ _ _ (made .round .ensures) _ (more .if1 .left) (pre .0 .1) (pre .1 .0 .0) (pre .1 .1 .0 .1) in
     (pre .1 .0 .1, small-more _ _ 24000 (omega (arith, more .if1 .left, pre .0)) small))
     (λ c. omega (arith, c .before .before .before .before .before .before .before .before .before .if1 .left))
     -- what the next call asks: the latency is that of its starts
@@ -55,7 +55,6 @@ pub +rounds-spec : {M : Type 1} → statement M
     let made = c .before .before .before .before .before .before .before in
     let more = made .before .before in
     let pre = more .before .pre in
-    let same = c .before .before .before .before .same .ensures in
     let left = more .if1 .left in (
       omega (arith, left, pre .0),
       (
@@ -64,10 +63,10 @@ pub +rounds-spec : {M : Type 1} → statement M
           pre .1 .1 .0,
           (
             (
-              next-long _ _ _ _ _ _ (pre .1 .1 .1 .1) _ _ left (made .round .ensures) same,
-              next-small _ _ _ _ _ _ (pre .1 .1 .1 .1) _ _ left (made .round .ensures) same (pre .1 .0 .1) (pre .1 .1 .0 .0) (pre .1 .1 .1 .0 .1),
+              next-long _ _ _ _ (made .round .ensures),
+              next-small _ _ _ _ (made .round .ensures) _ left (pre .1 .0 .1) (pre .1 .1 .0 .0) (pre .1 .1 .1 .0 .1),
             ),
-            c .before .latency-of .ensures,
+            next-latency _ _ _ _ (made .round .ensures) _ _ _ (pre .1 .1 .1 .1) (c .before .raised-latency .ensures),
           ),
         ),
       ),
@@ -75,5 +74,5 @@ pub +rounds-spec : {M : Type 1} → statement M
     (λ c.
     let made = c .before .before .before .before .before .before .before .before in
     let more = made .before .before in
-    rounds-more _ _ _ _ _ _ (more .before .pre .1 .1 .1 .1) _ _ (more .if1 .left) (made .round .ensures) (c .before .before .before .before .before .same .ensures) (c .before .before .before .before .if2 .left) _
-    (c .rounds .ensures)))
+    rounds-on _ _ _ _ _ _ (more .before .pre .1 .1 .1 .1) _ _ (more .if1 .left) (made .round .ensures) (c .before .before .before .before .before .same .ensures) (c .before .before .before .before .if2 .left) _
+    (c .before .before .raised-latency .ensures) _ (c .rounds .ensures)))

@@ -1,24 +1,25 @@
--- `latency_of` meets its contract. The loop's invariant: the largest end of the first i places.
+-- `raised_latency` meets its contract. The loop's invariant: the largest of the latency and the ends of the first i places.
 use borrow.Author.Needs.{needs}
 use native.Mathlib.Omega.{arith}
-use mathlib.Core.Path.{_≡_, sym}
-use Prim.Native.Nat.{_≤_, _-_}
-use Rattle.starts.specs.Latency.{latencyOf}
+use mathlib.Core.Path.{_≡_}
+use Prim.Native.Nat.{_≤_, _-_, max}
+use Rattle.starts.specs.Latency.{latencyOf, raisedBy}
 use Rattle.starts.proofs.LatencyLaws.{latency-none, latency-more}
-use Rattle.starts.proofs.latency.latency_of.Statement.{statement}
-use Rattle.starts.proofs.latency.latency_of.Tie as tie
+use Rattle.starts.proofs.latency.raised_latency.Statement.{statement}
+use Rattle.starts.proofs.latency.raised_latency.Tie as tie
 
 abbrev Inv-loop : tie.InvT-loop
-Inv-loop ticks starts latest₀ i₀ latest i = (i ≤ 24) × (latest ≡ latencyOf ticks starts i)
+Inv-loop latency ticks starts latest₀ i₀ latest i = (i ≤ 24) × (latest ≡ max latency (latencyOf ticks starts i))
 
 abbrev μ-loop : tie.MeasureT-loop
-μ-loop ticks starts latest₀ i₀ latest i = 24 - i
+μ-loop latency ticks starts latest₀ i₀ latest i = 24 - i
 
-pub latency-of-spec : {M : Type 1} → statement M
-latency-of-spec =
+pub raised-latency-spec : {M : Type 1} → statement M
+unfolding raisedBy
+raised-latency-spec =
     tie.close
     (tie.spec Inv-loop μ-loop
-    (λ c. (search needs, sym (latency-none _ _)))
+    (λ c. (search needs, rw latency-none (omega arith)))
     (λ c. search needs)
     (λ c. search needs)
     (λ c. search needs)
