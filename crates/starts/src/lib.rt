@@ -48,10 +48,11 @@ pub fn least_starts(
     fill_delays(&mut table, m, from, to, code);
     fill_turns(&mut table, clashes, turns, depth);
     let mut starts = [0u16; 24];
-    let risen = rounds(&table, ticks, &mut starts, longest, (n + 3) / 4, n);
+    let mut latency = longest;
+    let found = rounds(&table, ticks, &mut starts, &mut latency, (n + 3) / 4, n);
     Least {
         starts: starts,
-        latency: risen.latency,
-        found: risen.settled,
+        latency: latency,
+        found: found,
     }
 }

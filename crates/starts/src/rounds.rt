@@ -94,43 +94,31 @@ fn same(a: &[u16; 24], b: &[u16; 24]) -> bool
     true
 }
 
-// What rounds leave beside the starts: the latency of these, and whether the last round changed nothing.
-pub struct Risen {
-    pub latency: u16,
-    pub settled: bool,
-}
-
-// k rounds more, in place: the starts become those after k rounds, and the latency is theirs before each round and after it. A round that
-// changes nothing ends them, since no later one would change anything.
+// k rounds more: starts and latency are raised in place, together, and whether the last round changed nothing is returned. A round that changes
+// nothing ends them, since no later one would change anything.
 pub fn rounds(
     table: &[[u16; 24]; 24],
     ticks: &[u8; 24],
     starts: &mut [u16; 24],
-    latency: u16,
+    latency: &mut u16,
     fours: usize,
     k: usize,
-) -> Risen
+) -> bool
     requires { ⌜ (fours ≤ 6) × (k ≤ 24) ⌝ }
     requires { ⌜ SmallRows (now table) × Small (now ticks) 16 ⌝ }
     requires { ⌜ (length (now starts) ≡ 24) × Small (now starts) (1000 * (24 - k)) ⌝ }
-    requires { ⌜ latency ≡ latencyOf (now ticks) (now starts) 24 ⌝ }
-    ensures { λ r. ⌜ record { starts = now (starts .exit); latency = r .latency; found = r .settled } ≡ roundsOf (now (table .entry)) (now (ticks .entry)) fours (now (starts .entry)) latency k ⌝ }
+    requires { ⌜ now latency ≡ latencyOf (now ticks) (now starts) 24 ⌝ }
+    ensures { λ r. ⌜ record { starts = now (starts .exit); latency = now (latency .exit); found = r } ≡ roundsOf (now (table .entry)) (now (ticks .entry)) fours (now (starts .entry)) (now (latency .entry)) k ⌝ }
 {
     if k == 0 {
-        return Risen {
-            latency,
-            settled: false,
-        };
+        return false;
     }
     let old = *starts;
     let new = round(table, old, fours);
     if same(&old, &new) {
-        return Risen {
-            latency,
-            settled: true,
-        };
+        return true;
     }
     *starts = new;
-    let risen = raised_latency(latency, ticks, &new);
-    rounds(table, ticks, starts, risen, fours, k - 1)
+    *latency = raised_latency(*latency, ticks, &new);
+    rounds(table, ticks, starts, latency, fours, k - 1)
 }

@@ -21,7 +21,7 @@ least-starts-spec =
     (λ c κs. search needs)
     (λ c. search needs)
     (λ c κs.
-    let turns = c .before .before in
+    let turns = c .before .before .before in
     let delays = turns .before .before in
     let pre = delays .before .before .pre in (
       (omega (arith, fours-high _ (pre .0 .0)), omega (arith, pre .0 .0)),
@@ -31,6 +31,6 @@ least-starts-spec =
       ),
     ))
     (λ c.
-    let turns = c .before .before .before in
+    let turns = c .before .before .before .before in
     let delays = turns .before .before in
     least-is _ _ _ _ _ _ _ _ _ (delays .fill-delays .ensures) (turns .fill-turns .ensures) _ _ _ (delays .before .before .pre .1 .1 .1 .1) _ (c .rounds .ensures)))

@@ -14,7 +14,7 @@ use Rattle.starts.proofs.rounds.same.Reads as same-reads
 use Rattle.starts.proofs.rounds.+rounds.{statement}
 use Rattle.starts.proofs.rounds.+rounds.Tie.{close}
 
-abbrev μ-rounds : Measures 3 rounds-kinds.ps ℕ
+abbrev μ-rounds : Measures 4 rounds-kinds.ps ℕ
 μ-rounds κs a = a .1 .1 .1 .1 .1 .0
 
 pub +rounds-spec : {M : Type 1} → statement M
@@ -27,9 +27,9 @@ pub +rounds-spec : {M : Type 1} → statement M
       same-reads.Learnt,
       raised-latency-reads.Asked,
       raised-latency-reads.Learnt,
-      and 3 rounds-kinds.ps (falls 3 rounds-kinds.ps _<_ μ-rounds t) rounds.Pre,
+      and 4 rounds-kinds.ps (falls 4 rounds-kinds.ps _<_ μ-rounds t) rounds.Pre,
       rounds.Post,
-    ) (and 3 rounds-kinds.ps (is 3 rounds-kinds.ps μ-rounds t) rounds.Pre) rounds.Post
+    ) (and 4 rounds-kinds.ps (is 4 rounds-kinds.ps μ-rounds t) rounds.Pre) rounds.Post
     -- k is 0
     (λ c. rounds-none _ _ _ _ _ _ (c .before .pre .1 .1 .1 .1) (c .if1 .taken))
     (λ c κs.
@@ -44,15 +44,16 @@ pub +rounds-spec : {M : Type 1} → statement M
     rounds-end _ _ _ _ _ _ (pre .1 .1 .1) _ _ (more .if1 .left) (made .round .ensures) (c .before .same .ensures) (pre .1 .1 .0 .0) (c .if2 .taken))
     -- the latency raised by the new starts
     (λ c κs.
-    let made = c .before .before .before .before .before in
+    let made = c .before .before .before .before .before .before in
     let more = made .before .before in
     let pre = more .before .pre .1 in
     let small = next-small _ _ _ _ (made .round .ensures) _ (more .if1 .left) (pre .0 .1) (pre .1 .0 .0) (pre .1 .1 .0 .1) in
     (pre .1 .0 .1, small-more _ _ 24000 (omega (arith, more .if1 .left, pre .0)) small))
-    (λ c. omega (arith, c .before .before .before .before .before .before .before .before .before .if1 .left))
+    (λ c. omega (arith, c .before .before .before .before .before .before .before .before .before .before .before .if1 .left))
     -- what the next call asks: the latency is that of its starts
     (λ c κs.
-    let made = c .before .before .before .before .before .before .before in
+    let risen = c .before .before in
+    let made = risen .before .before .before .before .before .before .before in
     let more = made .before .before in
     let pre = more .before .pre in
     let left = more .if1 .left in (
@@ -66,13 +67,14 @@ pub +rounds-spec : {M : Type 1} → statement M
               next-long _ _ _ _ (made .round .ensures),
               next-small _ _ _ _ (made .round .ensures) _ left (pre .1 .0 .1) (pre .1 .1 .0 .0) (pre .1 .1 .1 .0 .1),
             ),
-            next-latency _ _ _ _ (made .round .ensures) _ _ _ (pre .1 .1 .1 .1) (c .before .raised-latency .ensures),
+            next-latency _ _ _ _ (made .round .ensures) _ _ _ (pre .1 .1 .1 .1) (risen .raised-latency .ensures),
           ),
         ),
       ),
     ))
     (λ c.
-    let made = c .before .before .before .before .before .before .before .before in
+    let risen = c .before .before .before in
+    let changed = risen .before .before .before in
+    let made = changed .before .before .before .before in
     let more = made .before .before in
-    rounds-on _ _ _ _ _ _ (more .before .pre .1 .1 .1 .1) _ _ (more .if1 .left) (made .round .ensures) (c .before .before .before .before .before .same .ensures) (c .before .before .before .before .if2 .left) _
-    (c .before .before .raised-latency .ensures) _ (c .rounds .ensures)))
+    rounds-on _ _ _ _ _ _ (more .before .pre .1 .1 .1 .1) _ _ (more .if1 .left) (made .round .ensures) (changed .before .same .ensures) (changed .if2 .left) _ (risen .raised-latency .ensures) _ (c .rounds .ensures)))
