@@ -133,7 +133,7 @@ same-at a b (suc k) e i h =
     go (no q) rec t = rec (omega arith)
 
 -- the test finds no difference only if there is none
-pub same-is : (a b : List ℕ) (k : ℕ) → length a ≡ k → length b ≡ k → sameTo a b k ≡ true → a ≡ b
+same-is : (a b : List ℕ) (k : ℕ) → length a ≡ k → length b ≡ k → sameTo a b k ≡ true → a ≡ b
 same-is a b k p q e = ext-getD 0 a b (p ∙ sym q) (λ i h. same-at a b k e i (omega arith))
 
 -- ---- k rounds: the first and then the others, as the code has them
