@@ -74,3 +74,7 @@ pub code-named : (c : Clash) → Ranged c → Named (codeOf c)
 code-named c r =
     rw (code-sum c r)
     (record { first = omega (arith, r .rising, r .known, r .k-in); second = omega (arith, r .known, r .k-in) })
+
+-- at a distance that is 15 at most
+pub code-near : (c : Clash) → Ranged c → codeOf c % 32 < 31
+code-near c r = rw (code-sum c r) (omega (arith, r .k-in))

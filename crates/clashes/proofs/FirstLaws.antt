@@ -1,5 +1,5 @@
 -- A scan of the codes finds the first clash that the starts meet.
-use Prim.Native.Nat.{ℕ, suc, _+_, _-_, _/_, _%_, _≤_, _<_}
+use Prim.Native.Nat.{ℕ, zero, suc, _+_, _-_, _/_, _%_, _≤_, _<_}
 use mathlib.Core.Path.{_≡_, refl, sym, ap, _∙_}
 use mathlib.Core.Bool.{Bool, true, false}
 use mathlib.Core.List.{List, [], _∷_, map, List·Memᴰ, List·Memᴰ·head, List·Memᴰ·tail}
@@ -21,7 +21,7 @@ use Rattle.model.proofs.DistanceLaws.{eqZ-eq, eqZ-refl, sub-sum, sum-sub}
 use Rattle.clashes.specs.declared.Met.{Met}
 use Rattle.clashes.specs.declared.Met.the-variants as answer
 use Rattle.clashes.specs.Code.{clashOf}
-use Rattle.clashes.specs.First.{clashesIn, metOf, firstCode}
+use Rattle.clashes.specs.First.{Unmet, clashesIn, metOf, firstCode}
 
 -- the test of two distances is one of two sums
 eqZ-sum : (p q a b : ℕ) → eqb (p + b) (q + a) ≡ eqZ (subℕ p q) (subℕ a b)
@@ -85,6 +85,17 @@ module _ (codes ts : List ℕ) (k n : ℕ) where
 pub first-all : (codes ts : List ℕ) (n : ℕ) → firstFrom codes ts 0 n ≡ firstCode codes n ts
 unfolding firstFrom firstCode clashesIn
 first-all codes ts n = let e : n - 0 ≡ n = omega arith in rw e
+
+-- and from code k on, where none before it is met
+pub first-rest : (codes ts : List ℕ) (n k : ℕ) → k ≤ n → Unmet codes ts k → firstFrom codes ts k n ≡ firstCode codes n ts
+first-rest codes ts n zero h u = first-all codes ts n
+first-rest codes ts n (suc k) h u =
+    (rw add-one at (first-more codes ts k n false (omega arith) (sym (u .each k (omega arith))) refl))
+    ∙ first-rest codes ts n k (omega arith) (record { each = λ i g. u .each i (omega arith) })
+
+-- none is met before code 0
+pub unmet-none : (codes ts : List ℕ) → Unmet codes ts 0
+unmet-none codes ts = record { each = λ k h. absurd (omega arith) }
 
 -- starts that meet the same clashes have the same first
 pub first-agree : (cs : List Clash) (us ts : List ℕ) (k : ℕ) → ((c : Clash) → List·Memᴰ c cs → met us c ≡ met ts c) → firstMet cs us k ≡ firstMet cs ts k

@@ -1,4 +1,4 @@
--- What a caller learns from the clash list: the code at each place, that first_met may read it, and that its answer is the model's.
+-- What a caller learns from the clash list: the code at each place, that first_met and find_pairs may read it, and that its answer is the model's.
 -- The laws take the result r of list_clashes with what its contract says of it.
 use Prim.Native.Nat.{ℕ, suc, _+_, _-_, _≤_, _<_}
 use mathlib.Core.Path.{_≡_, refl, ap, _∙_}
@@ -18,7 +18,8 @@ use Rattle.clashes.specs.declared.Clashes.{Clashes}
 use Rattle.clashes.specs.Code.{codeOf, clashOf}
 use Rattle.clashes.specs.List.{Tabled, listOf}
 use Rattle.clashes.specs.First.{Known, clashesIn, metOf, firstCode}
-use Rattle.clashes.proofs.CodeLaws.{Ranged, listed-ranged, code-back, code-named}
+use Rattle.clashes.specs.Pairs.{Near}
+use Rattle.clashes.proofs.CodeLaws.{Ranged, listed-ranged, code-back, code-named, code-near}
 use Rattle.clashes.proofs.FirstLaws.{first-agree}
 
 -- ---- the listed clash at a place
@@ -67,6 +68,10 @@ module _ (codes : List ℕ) (cs : List Clash) (ranged : (c : Clash) → List·Me
   pub codes-known : Known codes (length cs)
   codes-known = record { each = λ k h. rw (coded k h) (code-named (getD cs k noClash) (ranged (getD cs k noClash) (getD-in cs k noClash h))) }
 
+  -- at distances that find_pairs has bits for
+  pub codes-near : Near codes (length cs)
+  codes-near = record { each = λ k h. rw (coded k h) (code-near (getD cs k noClash) (ranged (getD cs k noClash) (getD-in cs k noClash h))) }
+
 -- ---- what list_clashes returns
 
 -- the count is D
@@ -79,7 +84,7 @@ module _ (b : Batch) (r : Clashes) (e : r ≡ listOf b) (few : length (clashes b
   pub list-code : (k : ℕ) → k < length (clashes b) → getD (r .codes) k 0 ≡ codeOf (getD (clashes b) k noClash)
   list-code k h = ap (λ (l : Clashes). getD (l .codes) k 0) e ∙ code-at b k h few
 
-  -- what first_met requires of the count
+  -- what first_met and find_pairs require of the count
   pub list-fits : r .count ≤ 1024
   list-fits = rw (list-count b r e) few
 
@@ -88,9 +93,13 @@ module _ (b : Batch) (r : Clashes) (e : r ≡ listOf b) (few : length (clashes b
     pub list-in : clashesIn (r .codes) (r .count) ≡ clashes b
     list-in = rw (list-count b r e) (codes-in (r .codes) (clashes b) (listed-ranged b t) list-code)
 
-    -- what first_met requires
+    -- what first_met and find_pairs require
     pub list-known : Known (r .codes) (r .count)
     list-known = rw (list-count b r e) (codes-known (r .codes) (clashes b) (listed-ranged b t) list-code)
+
+    -- what find_pairs requires besides
+    pub list-near : Near (r .codes) (r .count)
+    list-near = rw (list-count b r e) (codes-near (r .codes) (clashes b) (listed-ranged b t) list-code)
 
     -- first_met's answer is the model's, for starts that agree on the batch's jobs
     pub first-listed : (us ts : List ℕ) → ((i : ℕ) → i < b .n → getD us i 0 ≡ getD ts i 0)

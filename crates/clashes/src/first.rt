@@ -5,7 +5,7 @@ ghost use mathlib.Core.Path.{_≡_};
 ghost use Prim.Native.Nat.{_≤_};
 ghost use Rattle.model.specs.Search.{met};
 ghost use Rattle.clashes.specs.Code.{clashOf};
-ghost use Rattle.clashes.specs.First.{firstCode, Known, Named};
+ghost use Rattle.clashes.specs.First.{firstCode, Known, Named, Unmet};
 
 // t_j - t_i = d for the clash of a code, as t_j + 15 = t_i + (d + 15).
 fn is_met(code: u16, starts: &[u16; 24]) -> bool
@@ -16,13 +16,14 @@ fn is_met(code: u16, starts: &[u16; 24]) -> bool
     wide16(starts[x / 32 % 32]) + 15 == wide16(starts[x / 1024]) + x % 32
 }
 
-// The number of the first of the codes below count whose clash is met.
-pub fn first_met(codes: &[u16; 1024], count: usize, starts: &[u16; 24]) -> Met
-    requires { ⌜ count ≤ 1024 ⌝ }
+// The number of the first of the codes below count whose clash is met. None below low is.
+pub fn first_met(codes: &[u16; 1024], low: usize, count: usize, starts: &[u16; 24]) -> Met
+    requires { ⌜ (low ≤ count) × (count ≤ 1024) ⌝ }
     requires { ⌜ Known (now codes) count ⌝ }
+    requires { ⌜ Unmet (now codes) (now starts) low ⌝ }
     ensures { λ r. ⌜ r ≡ firstCode (now (codes .entry)) count (now (starts .entry)) ⌝ }
 {
-    let mut k: usize = 0;
+    let mut k = low;
     while k < count {
         if is_met(codes[k], starts) {
             let number = k as u16;

@@ -1,6 +1,6 @@
 -- A plan tested by arrays: the delays as they are read, the clashes as they are listed, and starts that stand in 24 places.
 use Prim.Native.Nat.{ℕ, _+_, _≤_, _<_, max}
-use mathlib.Core.Path.{_≡_, refl, ap, ap₂, sym, _∙_}
+use mathlib.Core.Path.{_≡_, refl, ap, ap₂, sym, subst, _∙_}
 use mathlib.Core.Bool.{Bool, true, false, _&&_, not}
 use mathlib.Core.Option.{Option, none, some}
 use mathlib.Core.List.{List, [], _∷_, map, foldr}
@@ -11,6 +11,7 @@ use lib.Signed.{leZ}
 use lib.Dec.{leb}
 use borrow.Author.Tests.{leb-true, le-leb}
 use Rattle.model.specs.declared.Batch.{Batch}
+use Rattle.model.specs.declared.Delay.{Delay}
 use Rattle.model.specs.Common.{count, all, isSome}
 use Rattle.model.specs.Batch.{delayOf, delaysOf}
 use Rattle.model.specs.Plan.{start, finish, latency}
@@ -28,15 +29,15 @@ use Rattle.clashes.specs.declared.Clashes.{Clashes}
 use Rattle.clashes.specs.declared.Met.{Met}
 use Rattle.clashes.specs.declared.Met.the-variants as found
 use Rattle.clashes.specs.List.{listOf}
-use Rattle.clashes.specs.First.{Known, metOf, firstCode}
-use Rattle.clashes.proofs.FirstLaws.{first-agree}
+use Rattle.clashes.specs.First.{Known, Unmet, metOf, firstCode}
+use Rattle.clashes.proofs.FirstLaws.{unmet-none, first-agree}
 use Rattle.clashes.proofs.ListedLaws.{list-fits, list-known, first-listed}
 use Rattle.starts.specs.declared.delays.Delays.{Delays}
 use Rattle.starts.specs.Code.{Limited, coded}
 use Rattle.starts.specs.Delays.{delaysRead}
-use Rattle.starts.specs.Least.{HoldsDelays}
+use Rattle.starts.specs.Least.{Holds}
 use Rattle.starts.proofs.CodeLaws.{plus-coded}
-use Rattle.starts.proofs.SoundLaws.{holds-read}
+use Rattle.starts.proofs.SoundLaws.{delays-length, delays-at, holds-read}
 use Rattle.opening.proofs.WithinLaws.{within-tabled, within-sound}
 
 -- ---- delays
@@ -67,16 +68,24 @@ module _ (f : ℕ → Bool) (k m : ℕ) (r : Bool) (left : allFrom f k m ≡ r) 
   test-not e = all-failed f k m r left h (fails told e)
 
 module _ (b : Batch) (w : Within b) (d : Delays) (e : d ≡ delaysRead b) where
-  held : HoldsDelays b (d .from) (d .to) (d .code)
+  held : Holds (b .n) (delaysOf b) (d .from) (d .to) (d .code)
   held = let s = within-sound b w in rw e (holds-read b (s .few) (s .jobs) (s .weights))
+
+  in-list : (k : ℕ) → k < b .m → k < length (delaysOf b)
+  in-list k h = omega (arith, delays-length b)
 
   -- its jobs have places
   pub kept-jobs : (k : ℕ) → k < b .m → (getD (d .from) k 0 < 24) × (getD (d .to) k 0 < 24)
-  kept-jobs k h = (omega (arith, held .from k h, held .fromFits k h, w .jobs .1), omega (arith, held .to k h, held .toFits k h, w .jobs .1))
+  kept-jobs k h =
+      let f = held .fits k (in-list k h) in
+      (omega (arith, held .from k (in-list k h), f .from, w .jobs .1), omega (arith, held .to k (in-list k h), f .to, w .jobs .1))
 
   kept-at : (us : List ℕ) (k : ℕ) → k < b .m → keptTest us (d .from) (d .to) (d .code) k ≡ keeps us (delayOf b k)
   unfolding keptTest keeps start
-  kept-at us k h = rw (held .from k h, held .to k h, held .code k h) (kept-code _ _ _ (held .weightFits k h))
+  kept-at us k h =
+      let l = in-list k h in
+      let e = delays-at b k h in
+      rw (held .from k l, held .to k l, held .code k l, e) (kept-code _ _ _ (subst (λ (q : Delay). Limited (q .weight)) e (held .fits k l .weight)))
 
   -- what the loop has tested is what the definition asks
   pub kept-all : (us : List ℕ) (m : ℕ) → m ≡ b .m → allFrom (keptTest us (d .from) (d .to) (d .code)) 0 m ≡ all (keeps us) (delaysOf b)
@@ -104,8 +113,8 @@ module _ (b : Batch) (w : Within b) (f : fewClashes b ≡ true) (l : Clashes) (e
   few = leb-true (length (clashes b)) 1024 f
 
   -- what the first clash that is met asks of the list
-  pub clashes-fit : (l .count ≤ 1024) × Known (l .codes) (l .count)
-  clashes-fit = (list-fits b l e few, list-known b l e few (within-tabled b w))
+  pub clashes-fit : (us : List ℕ) → ((0 ≤ l .count) × (l .count ≤ 1024)) × (Known (l .codes) (l .count) × Unmet (l .codes) us 0)
+  clashes-fit us = ((omega arith, list-fits b l e few), (list-known b l e few (within-tabled b w), unmet-none (l .codes) us))
 
   module _ (us : List ℕ) (m : Met) (is : m ≡ firstCode (l .codes) (l .count) us) where
     told : m ≡ metOf (firstMet (clashes b) us 0)

@@ -59,7 +59,7 @@ fn meets_clash(batch: Batch, starts: &[u16; 24]) -> bool
 {
     let list = list_clashes(batch);
     let codes = list.codes;
-    let met = first_met(&codes, list.count, starts);
+    let met = first_met(&codes, 0, list.count, starts);
     match met {
         Met::Clash(_) => true,
         Met::Nothing => false,

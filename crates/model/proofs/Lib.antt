@@ -15,6 +15,7 @@ pub mod BackLaws
 pub mod NodeLaws
 pub mod GoodLaws
 pub mod BoundLaws
+pub mod UnderLaws
 pub mod EndLaws
 pub mod SoundLaws
 pub mod LeaveLaws

@@ -12,7 +12,7 @@ use Rattle.model.specs.declared.Turn.{Turn}
 use Rattle.model.specs.Common.{count, if_then_else_}
 use Rattle.model.specs.Search.{nextSide, movedOn, turnedBack}
 use Rattle.model.proofs.SeqLaws.{listed-snoc, listed-cong}
-use Rattle.search.specs.Walk.{turnOf, turnsIn, Path, backAs}
+use Rattle.search.specs.Walk.{turnOf, turnsIn, Path, Kin, backAs}
 
 -- ---- going back from the end of a list
 
@@ -105,22 +105,34 @@ module _ (turns₀ : List ℕ) (depth : ℕ) (p : Path turns₀ depth) (turns : 
   pub last-small : 0 < left → getD turns (left - 1) 0 < 2048
   last-small h = rw (d .0) (p .small (left - 1) (omega (arith, d .1)))
 
-  pub dropped-all : left ≤ 0 → (backAs turns 0 ≡ turnedBack (turnsIn turns₀ depth)) × Path turns 0
+  pub dropped-all : left ≤ 0 → (backAs turns 0 ≡ turnedBack (turnsIn turns₀ depth)) × (Path turns 0 × Kin turns₀ depth turns 0)
   unfolding backAs
   dropped-all h =
       let z : 0 ≡ left = omega arith in (
         back-none turns₀ ∙ ap (λ (k : ℕ). turnedBack (turnsIn turns₀ k)) z ∙ d .2,
-        rw (d .0) (path-less turns₀ depth 0 p (omega arith)),
+        (
+          rw (d .0) (path-less turns₀ depth 0 p (omega arith)),
+          record { less = omega arith; same = λ k l. absurd (omega arith); clash = λ k l. absurd (omega arith) },
+        ),
       )
 
   pub drops : 0 < left → ¬ (getD turns (left - 1) 0 % 2 ≡ 0) → Dropping turns₀ depth turns (left - 1)
   drops h q =
       (d .0, omega (arith, d .1), sym (back-odd turns₀ left (left - 1) (getD turns (left - 1) 0) h refl (ap (λ (l : List ℕ). getD l (left - 1) 0) (d .0)) q) ∙ d .2)
 
-  pub moves : 0 < left → getD turns (left - 1) 0 % 2 ≡ 0 → (backAs (set turns (left - 1) (getD turns (left - 1) 0 + 1)) left ≡ turnedBack (turnsIn turns₀ depth)) × Path (set turns (left - 1) (getD turns (left - 1) 0 + 1)) left
+  pub moves : 0 < left → getD turns (left - 1) 0 % 2 ≡ 0 → (backAs (set turns (left - 1) (getD turns (left - 1) 0 + 1)) left ≡ turnedBack (turnsIn turns₀ depth)) × (Path (set turns (left - 1) (getD turns (left - 1) 0 + 1)) left × Kin turns₀ depth (set turns (left - 1) (getD turns (left - 1) 0 + 1)) left)
   moves h q = (
     back-even turns left (left - 1) (getD turns (left - 1) 0) h (omega (arith, p .full, p .deep, ap length (d .0), d .1)) refl refl q
         ∙ ap (λ (l : List ℕ). turnedBack (turnsIn l left)) (d .0) ∙ d .2,
-    path-set turns left (left - 1) (getD turns (left - 1) 0 + 1) (rw (d .0) (path-less turns₀ depth (left - 1) p (omega (arith, d .1)))) (omega (arith, p .deep, d .1)) (omega arith)
-        (omega (arith, last-small h)),
+    (
+      path-set turns left (left - 1) (getD turns (left - 1) 0 + 1) (rw (d .0) (path-less turns₀ depth (left - 1) p (omega (arith, d .1)))) (omega (arith, p .deep, d .1)) (omega arith)
+          (omega (arith, last-small h)),
+      record {
+        less = d .1;
+        same = λ k l. getD-set-other turns (left - 1) k _ 0 (λ e. omega arith) ∙ ap (λ (l : List ℕ). getD l k 0) (d .0);
+        clash = λ k l.
+            let e : k ≡ left - 1 = omega arith in
+            rw e (omega (arith, getD-set-same turns (left - 1) (getD turns (left - 1) 0 + 1) 0 (omega (arith, p .full, p .deep, ap length (d .0), d .1)), ap (λ (l : List ℕ). getD l (left - 1) 0) (d .0)));
+      },
+    ),
   )

@@ -2,8 +2,11 @@
 pub mod BackLaws
 pub mod PathLaws
 pub mod AnswerLaws
+pub mod StepsLaws
 pub mod NodeLaws
+pub mod RowsLaws
 pub mod WorksLaws
+pub mod ReachLaws
 pub mod VisitLaws
 pub mod NodesLaws
 pub mod RecordLaws

@@ -16,7 +16,7 @@ use Rattle.model.proofs.SoundLaws.{fits, SoundBest, sound-new, place-sound}
 use Rattle.search.specs.declared.node.Walk.{Walk}
 use Rattle.search.specs.declared.node.Sizes.{Sizes}
 use Rattle.search.specs.Walk.{Path, placeAt}
-use Rattle.search.specs.Kit.{Works, Ready, Visited}
+use Rattle.search.specs.Kit.{Kit, Trail, Works, Ready, Visited}
 use Rattle.search.proofs.WorksLaws.{place-back, passes, good}
 
 nodes-none : (cs : List Clash) (s : Search) (k : ℕ) → k ≤ 0 → nodesOn cs k s ≡ s
@@ -57,55 +57,62 @@ ended-is : (b : Batch) (total : ℕ) (turns : List ℕ) (walk : Walk) {p : Bool}
 unfolding searchOf placeAt
 ended-is b total turns walk e = e
 
-module _ (sizes : Sizes) (from to code ticks codes : List ℕ) where
+module _ (sizes : Sizes) (kit : Kit) where
   -- what holds at the loop's test: whatever batch the arrays stood for at first, they stand for it, and the rest of the nodes leads where all lead
-  abbrev pub Going : List ℕ → Walk → Tally → List ℕ → Walk → Tally → Type 0
-  Going turns₀ walk₀ tally₀ turns walk tally =
+  abbrev pub Going : Trail → Walk → Tally → Trail → Walk → Tally → Type 0
+  Going t₀ walk₀ tally₀ t walk tally =
       (tally .total + tally .left ≤ 100000000)
-      × ((b : Batch) → Works b sizes from to code ticks codes turns₀ walk₀
-      → Works b sizes from to code ticks codes turns walk
-      × (nodesOn (clashes b) (tally .left) (searchOf b (tally .total) (placeAt turns walk)) ≡ nodesOn (clashes b) (tally₀ .left) (searchOf b (tally₀ .total) (placeAt turns₀ walk₀))))
+      × ((b : Batch) → Works b sizes kit t₀ walk₀
+      → Works b sizes kit t walk
+      × (nodesOn (clashes b) (tally .left) (searchOf b (tally .total) (placeAt (t .turns) walk)) ≡ nodesOn (clashes b) (tally₀ .left) (searchOf b (tally₀ .total) (placeAt (t₀ .turns) walk₀))))
 
   -- one node more
-  module _ (turns₀ : List ℕ) (walk₀ : Walk) (tally₀ : Tally) (turns : List ℕ) (walk : Walk) (tally : Tally) (g : Going turns₀ walk₀ tally₀ turns walk tally) where
-    pub still-ready : Ready sizes from to code ticks codes turns₀ walk₀ → Ready sizes from to code ticks codes turns walk
+  module _ (t₀ : Trail) (walk₀ : Walk) (tally₀ : Tally) (t : Trail) (walk : Walk) (tally : Tally) (g : Going t₀ walk₀ tally₀ t walk tally) where
+    pub still-ready : Ready sizes kit t₀ walk₀ → Ready sizes kit t walk
     still-ready (b, w) = (b, g .1 b w .0)
 
-    pub goes-on : (turns′ : List ℕ) (walk′ : Walk) (tally′ : Tally) → 0 < tally .left → walk .ended ≡ false → tally′ ≡ counted tally → Visited sizes from to code ticks codes turns walk turns′ walk′ → Going turns₀ walk₀ tally₀ turns′ walk′ tally′
+    pub goes-on : (t′ : Trail) (walk′ : Walk) (tally′ : Tally) → 0 < tally .left → walk .ended ≡ false → tally′ ≡ counted tally → Visited sizes kit t walk t′ walk′ → Going t₀ walk₀ tally₀ t′ walk′ tally′
     unfolding counted
-    goes-on turns′ walk′ tally′ h e t v =
-        (omega (arith, g .0, ap (λ (x : Tally). x .total) t, ap (λ (x : Tally). x .left) t), λ b w₀. (works b w₀, path b w₀))
+    goes-on t′ walk′ tally′ h e c v =
+        (omega (arith, g .0, ap (λ (x : Tally). x .total) c, ap (λ (x : Tally). x .left) c), λ b w₀. (works b w₀, path b w₀))
       where
-        works : (b : Batch) → Works b sizes from to code ticks codes turns₀ walk₀ → Works b sizes from to code ticks codes turns′ walk′
+        works : (b : Batch) → Works b sizes kit t₀ walk₀ → Works b sizes kit t′ walk′
         works b w₀ =
             let w = g .1 b w₀ .0 in
             let n = v b w in
-            let p = passes b sizes from to code ticks codes turns walk w in
+            let p = passes b sizes kit t walk w in
             record {
               jobs = w .jobs;
               few = w .few;
-              delays = w .delays;
+              from = w .from;
+              to = w .to;
+              code = w .code;
               each-ticks = w .each-ticks;
               longest = w .longest;
               listed = w .listed;
-              path = n .1;
+              paired = w .paired;
+              stands = n .1;
               is-sound =
                   ap (λ (q : Place). sound (searchOf b 0 q)) (n .0)
-                  ∙ place-sound b p 0 (next (clashes b) b (placeAt turns walk)) (omega arith)
-                  (step-next b (fits b p) (SoundBest b) (sound-new b (fits b p)) (placeAt turns walk) (good b sizes from to code ticks codes turns walk w) .good);
+                  ∙ place-sound b p 0 (next (clashes b) b (placeAt (t .turns) walk)) (omega arith)
+                  (step-next b (fits b p) (SoundBest b) (sound-new b (fits b p)) (placeAt (t .turns) walk) (good b sizes kit t walk w) .good);
             }
 
-        path : (b : Batch) (w₀ : Works b sizes from to code ticks codes turns₀ walk₀) → nodesOn (clashes b) (tally′ .left) (searchOf b (tally′ .total) (placeAt turns′ walk′)) ≡ nodesOn (clashes b) (tally₀ .left) (searchOf b (tally₀ .total) (placeAt turns₀ walk₀))
+        path : (b : Batch) (w₀ : Works b sizes kit t₀ walk₀) → nodesOn (clashes b) (tally′ .left) (searchOf b (tally′ .total) (placeAt (t′ .turns) walk′)) ≡ nodesOn (clashes b) (tally₀ .left) (searchOf b (tally₀ .total) (placeAt (t₀ .turns) walk₀))
         path b w₀ =
             let w = g .1 b w₀ .0 in
-            ap (λ (x : Tally). nodesOn (clashes b) (x .left) (searchOf b (x .total) (placeAt turns′ walk′))) t
+            ap (λ (x : Tally). nodesOn (clashes b) (x .left) (searchOf b (x .total) (placeAt (t′ .turns) walk′))) c
             ∙ ap (λ (q : Place). nodesOn (clashes b) (tally .left - 1) (searchOf b (tally .total + 1) q)) (v b w .0)
-            ∙ ap (λ (q : Place). nodesOn (clashes b) (tally .left - 1) (searchOf b (tally .total + 1) (next (clashes b) b q))) (sym (place-back b (tally .total) turns walk (w .path)))
-            ∙ ap (nodesOn (clashes b) (tally .left - 1)) (sym (node-is b (tally .total) (placeAt turns walk)))
-            ∙ sym (nodes-one (clashes b) (searchOf b (tally .total) (placeAt turns walk)) (tally .left) h (ended-is b (tally .total) turns walk e)) ∙ g .1 b w₀ .1
+            ∙ ap (λ (q : Place). nodesOn (clashes b) (tally .left - 1) (searchOf b (tally .total + 1) (next (clashes b) b q))) (sym (place-back b (tally .total) (t .turns) walk (w .stands .path)))
+            ∙ ap (nodesOn (clashes b) (tally .left - 1)) (sym (node-is b (tally .total) (placeAt (t .turns) walk)))
+            ∙ sym (nodes-one (clashes b) (searchOf b (tally .total) (placeAt (t .turns) walk)) (tally .left) h (ended-is b (tally .total) (t .turns) walk e)) ∙ g .1 b w₀ .1
 
-    pub stops : (b : Batch) → Works b sizes from to code ticks codes turns₀ walk₀ → (walk .ended ≡ true) → (searchOf b (tally .total) (placeAt turns walk) ≡ nodesOn (clashes b) (tally₀ .left) (searchOf b (tally₀ .total) (placeAt turns₀ walk₀))) × Path turns (walk .depth)
-    stops b w₀ e = (sym (nodes-over (clashes b) (searchOf b (tally .total) (placeAt turns walk)) (tally .left) (ended-is b (tally .total) turns walk e)) ∙ g .1 b w₀ .1, g .1 b w₀ .0 .path)
+    -- the nodes are over, since the search has ended or the budget is used
+    abbrev Over : Batch → Type 0
+    Over b = (searchOf b (tally .total) (placeAt (t .turns) walk) ≡ nodesOn (clashes b) (tally₀ .left) (searchOf b (tally₀ .total) (placeAt (t₀ .turns) walk₀))) × Path (t .turns) (walk .depth)
 
-    pub used-up : (b : Batch) → Works b sizes from to code ticks codes turns₀ walk₀ → (tally .left ≤ 0) → (searchOf b (tally .total) (placeAt turns walk) ≡ nodesOn (clashes b) (tally₀ .left) (searchOf b (tally₀ .total) (placeAt turns₀ walk₀))) × Path turns (walk .depth)
-    used-up b w₀ e = (sym (nodes-none (clashes b) (searchOf b (tally .total) (placeAt turns walk)) (tally .left) e) ∙ g .1 b w₀ .1, g .1 b w₀ .0 .path)
+    pub stops : (b : Batch) → Works b sizes kit t₀ walk₀ → (walk .ended ≡ true) → Over b
+    stops b w₀ e = (sym (nodes-over (clashes b) (searchOf b (tally .total) (placeAt (t .turns) walk)) (tally .left) (ended-is b (tally .total) (t .turns) walk e)) ∙ g .1 b w₀ .1, g .1 b w₀ .0 .stands .path)
+
+    pub used-up : (b : Batch) → Works b sizes kit t₀ walk₀ → (tally .left ≤ 0) → Over b
+    used-up b w₀ e = (sym (nodes-none (clashes b) (searchOf b (tally .total) (placeAt (t .turns) walk)) (tally .left) e) ∙ g .1 b w₀ .1, g .1 b w₀ .0 .stands .path)

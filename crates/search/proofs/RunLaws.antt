@@ -15,7 +15,7 @@ use Rattle.model.specs.declared.Ran.{Ran}
 use Rattle.model.specs.Common.{Outcome, refuse, accept, _>>=_, require}
 use Rattle.model.specs.Limits.{mostBudget, mostTotal}
 use Rattle.model.specs.Clash.{clashes}
-use Rattle.model.specs.Search.{nodes}
+use Rattle.model.specs.Search.{nodes, nodesOn}
 use Rattle.model.specs.Sound.{sound}
 use Rattle.model.proofs.LeaveLaws.{nodes-batch}
 use Rattle.model.proofs.SoundLaws.{fits, record-passes}
@@ -82,6 +82,11 @@ drawn ended total budget e h = go (ltb (100000000 - budget) total) refl ∙ ap (
     go : (p : Bool) → ltb (100000000 - budget) total ≡ p → not p ≡ leb (total + budget) 100000000
     go true f = sym (lt-leb (total + budget) 100000000 (omega (arith, ltb-true (100000000 - budget) total f)))
     go false f = sym (le-leb (total + budget) 100000000 (omega (arith, ltb-false (100000000 - budget) total f)))
+
+-- no nodes
+pub no-nodes : (s : Search) (budget : ℕ) → budget ≡ 0 → s ≡ nodes budget s
+unfolding nodes nodesOn
+no-nodes s budget h = rw h
 
 -- a search that has not ended has room for the budget
 pub has-room : (ended : Bool) (total budget : ℕ) → (ended || leb (total + budget) 100000000) ≡ true → ended ≡ false → total + budget ≤ 100000000

@@ -1,45 +1,104 @@
 -- The arrays that a run works on stand for a batch and for a place of its search.
 use mathlib.Core.Path.{_≡_}
-use mathlib.Core.Bool.{true}
+use mathlib.Core.Bool.{Bool, true, false}
 use mathlib.Core.List.{List}
-use Prim.Native.Nat.{ℕ}
+use mathlib.Core.Option.{some}
+use Prim.Native.Nat.{ℕ, _≤_}
 use Rattle.model.specs.declared.Batch.{Batch}
 use Rattle.model.specs.declared.Tally.{Tally}
+use Rattle.model.specs.declared.Best.{Best}
+use Rattle.model.specs.Common.{pad}
+use Rattle.model.specs.Plan.{latency}
 use Rattle.model.specs.Clash.{clashes}
-use Rattle.model.specs.Search.{next, searchOf, nodesOn}
+use Rattle.model.specs.Search.{startsAt, prunes, back, next, searchOf, nodesOn}
 use Rattle.model.specs.Sound.{sound}
 use Rattle.clashes.specs.List.{listOf}
-use Rattle.starts.specs.Delays.{delaysRead, ticksRead}
+use Rattle.clashes.specs.Pairs.{Paired}
+use Rattle.starts.specs.Delays.{delaysRead, heaviestOf, ticksRead}
 use Rattle.starts.specs.Latency.{longestOf}
 use Rattle.search.specs.declared.node.Walk.{Walk}
 use Rattle.search.specs.declared.node.Sizes.{Sizes}
 use Rattle.search.specs.declared.nodes.Walked.{Walked}
-use Rattle.search.specs.Walk.{Path, placeAt}
+use Rattle.search.specs.Walk.{Path, Kin, Steps, incumbent, turnsIn, placeAt}
+use Rattle.search.specs.Rows.{Kept}
+
+-- what does not change in a run: the delays, the jobs' ticks, the clashes' codes, and these by pairs of jobs
+pub record Kit : Type 0 where
+  pub from : List ℕ
+  pub to : List ℕ
+  pub code : List ℕ
+  pub ticks : List ℕ
+  pub codes : List ℕ
+  pub pair : List ℕ
+  pub held : List ℕ
+  pub end : List ℕ
+
+-- what does: the turns of the present path, their inequalities, and the rows of the nodes above
+pub record Trail : Type 0 where
+  pub turns : List ℕ
+  pub tail : List ℕ
+  pub head : List ℕ
+  pub gap : List ℕ
+  pub rows : List (List ℕ)
+  pub tags : List ℕ
+  pub ends : List ℕ
+
+-- a trail of a batch's search at a depth
+pub record Stands (b : Batch) (kit : Kit) (t : Trail) (depth : ℕ) : Type 0 where
+  pub path : Path (t .turns) depth
+  pub steps : Steps (kit .codes) (t .turns) depth (t .tail) (t .head) (t .gap)
+  pub kept : Kept b (kit .ticks) (t .turns) depth (t .rows) (t .tags) (t .ends)
 
 -- they hold the batch's delays, ticks and clashes, and a sound place
-pub record Works (b : Batch) (sizes : Sizes) (from to code ticks codes turns : List ℕ) (walk : Walk) : Type 0 where
+pub record Works (b : Batch) (sizes : Sizes) (kit : Kit) (t : Trail) (walk : Walk) : Type 0 where
   pub jobs : sizes .jobs ≡ b .n
   pub few : sizes .delays ≡ b .m
-  pub delays : record { from = from; to = to; code = code } ≡ delaysRead b
-  pub each-ticks : ticks ≡ ticksRead b
-  pub longest : sizes .longest ≡ longestOf ticks
-  pub listed : record { count = sizes .clashes; codes = codes } ≡ listOf b
-  pub path : Path turns (walk .depth)
-  pub is-sound : sound (searchOf b 0 (placeAt turns walk)) ≡ true
+  pub from : kit .from ≡ delaysRead b .from
+  pub to : kit .to ≡ delaysRead b .to
+  pub code : kit .code ≡ heaviestOf (b .m) (delaysRead b .from) (delaysRead b .to) (delaysRead b .code)
+  pub each-ticks : kit .ticks ≡ ticksRead b
+  pub longest : sizes .longest ≡ longestOf (kit .ticks)
+  pub listed : record { count = sizes .clashes; codes = kit .codes } ≡ listOf b
+  pub paired : (n : ℕ) × ((n ≤ sizes .clashes) × Paired (kit .codes) (kit .pair) (kit .held) (kit .end) (sizes .pairs) n)
+  pub stands : Stands b kit t (walk .depth)
+  pub is-sound : sound (searchOf b 0 (placeAt (t .turns) walk)) ≡ true
 
 -- for some batch they do
-abbrev pub Ready : Sizes → List ℕ → List ℕ → List ℕ → List ℕ → List ℕ → List ℕ → Walk → Type 0
-Ready sizes from to code ticks codes turns walk = (b : Batch) × Works b sizes from to code ticks codes turns walk
+abbrev pub Ready : Sizes → Kit → Trail → Walk → Type 0
+Ready sizes kit t walk = (b : Batch) × Works b sizes kit t walk
 
--- whatever batch they stand for, turns′ and walk′ are its next place
-abbrev pub Visited : Sizes → List ℕ → List ℕ → List ℕ → List ℕ → List ℕ → List ℕ → Walk → List ℕ → Walk → Type 0
-Visited sizes from to code ticks codes turns walk turns′ walk′ =
-    (b : Batch) → Works b sizes from to code ticks codes turns walk
-    → (placeAt turns′ walk′ ≡ next (clashes b) b (placeAt turns walk)) × Path turns′ (walk′ .depth)
+-- the least starts of the place, and their latency, which is below best's
+pub record Least (b : Batch) (t : Trail) (walk : Walk) (starts : List ℕ) (last : ℕ) : Type 0 where
+  pub jobs : List ℕ
+  pub least : startsAt (clashes b) b (turnsIn (t .turns) (walk .depth)) ≡ some jobs
+  pub padded : starts ≡ pad 24 0 jobs
+  pub told : last ≡ latency b jobs
+  pub below : prunes (walk .best) (latency b jobs) ≡ false
+  pub small : last ≤ 23016
 
--- whatever batch they stand for, the record at turns′ and walked is the one that the tally's nodes reach
-abbrev pub Walks : Sizes → List ℕ → List ℕ → List ℕ → List ℕ → List ℕ → List ℕ → Walk → Tally → List ℕ → Walked → Type 0
-Walks sizes from to code ticks codes turns walk tally turns′ r =
-    (b : Batch) → Works b sizes from to code ticks codes turns walk
-    → (searchOf b (r .tally .total) (placeAt turns′ (r .walk)) ≡ nodesOn (clashes b) (tally .left) (searchOf b (tally .total) (placeAt turns walk)))
+-- whatever batch they stand for, a node that is told to go on has these least starts, and another goes back
+abbrev pub Reaches : Sizes → Kit → Trail → Walk → Bool → List ℕ → ℕ → Type 0
+Reaches sizes kit t walk found starts last =
+    (b : Batch) → Works b sizes kit t walk
+    → (found ≡ true → Least b t walk starts last)
+    × (found ≡ false → next (clashes b) b (placeAt (t .turns) walk) ≡ back (turnsIn (t .turns) (walk .depth)) (incumbent (walk .best) (walk .starts)))
+
+-- gone back with this best: the place, the turns, and their inequalities
+pub record Returned (codes turns : List ℕ) (depth : ℕ) (best : Best) (starts turns′ tail head gap : List ℕ) (walk : Walk) : Type 0 where
+  pub place : placeAt turns′ walk ≡ back (turnsIn turns depth) (incumbent best starts)
+  pub path : Path turns′ (walk .depth)
+  pub kin : Kin turns depth turns′ (walk .depth)
+  pub steps : Steps codes turns′ (walk .depth) tail head gap
+
+-- whatever batch they stand for, the new trail and walk are its next place
+abbrev pub Visited : Sizes → Kit → Trail → Walk → Trail → Walk → Type 0
+Visited sizes kit t walk t′ walk′ =
+    (b : Batch) → Works b sizes kit t walk
+    → (placeAt (t′ .turns) walk′ ≡ next (clashes b) b (placeAt (t .turns) walk)) × Stands b kit t′ (walk′ .depth)
+
+-- whatever batch they stand for, the record at the new trail is the one that the tally's nodes reach
+abbrev pub Walks : Sizes → Kit → Trail → Walk → Tally → List ℕ → Walked → Type 0
+Walks sizes kit t walk tally turns′ r =
+    (b : Batch) → Works b sizes kit t walk
+    → (searchOf b (r .tally .total) (placeAt turns′ (r .walk)) ≡ nodesOn (clashes b) (tally .left) (searchOf b (tally .total) (placeAt (t .turns) walk)))
     × Path turns′ (r .walk .depth)

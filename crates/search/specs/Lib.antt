@@ -1,3 +1,4 @@
 -- What the search's contracts say of its arrays and of the place that it walks.
 pub mod Walk
+pub mod Rows
 pub mod Kit

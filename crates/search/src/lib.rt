@@ -4,6 +4,7 @@ mod back;
 mod node;
 mod nodes;
 mod path;
+mod rows;
 mod run;
 
 pub use run::run_search;

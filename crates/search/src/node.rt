@@ -1,14 +1,18 @@
 // One node: least starts of the delays and the turns; back if there are none or they end at or above best; else the first clash that
 // they meet becomes a turn, and starts that meet none become best.
 use crate::back::go_back;
+use crate::rows::begin;
 use clashes::Met;
 use clashes::first_met;
+use clashes::unmet;
 use model::Best;
+use model::wide16;
 use starts::least_starts;
+use starts::turn::store_turn;
 ghost use mathlib.Core.Path.{_≡_};
-ghost use Rattle.model.specs.Search.{prunes as prunesAt, back as backFrom};
-ghost use Rattle.search.specs.Walk.{Path, turnsIn, incumbent, placeAt};
-ghost use Rattle.search.specs.Kit.{Ready, Visited};
+ghost use lib.ListN.{replicate};
+ghost use Rattle.search.specs.Walk.{Path, Coded, Steps, boundOf};
+ghost use Rattle.search.specs.Kit.{Ready, Reaches, Returned, Visited};
 
 // Where a search stands while it runs, its turns beside it: how many there are, and best with its starts.
 pub struct Walk {
@@ -18,41 +22,27 @@ pub struct Walk {
     pub ended: bool,
 }
 
-// How many jobs, delays and clashes there are, and the ticks of the longest job.
+// How many jobs, delays, clashes and pairs of jobs that clash there are, and the ticks of the longest job.
 pub struct Sizes {
     pub jobs: usize,
     pub delays: usize,
     pub clashes: usize,
+    pub pairs: usize,
     pub longest: u16,
 }
 
-// Best exists, and the latency is at or above best's.
-fn prunes(best: Best, latency: u16) -> bool
-    ensures { λ r. ⌜ r ≡ prunesAt best latency ⌝ }
+// A latency at or above this sends a node back: best's, or one above the largest that there is.
+fn bound_of(best: Best) -> u16
+    ensures { λ r. ⌜ r ≡ boundOf best ⌝ }
 {
     let Best::Latency(least) = best else {
-        return false;
+        return 23017;
     };
-    least <= latency
+    least
 }
 
-// The search gone back with this best; if no turn is left, it has ended.
-fn gone_back(turns: &mut [u16; 1024], depth: usize, best: Best, starts: [u16; 24]) -> Walk
-    requires { ⌜ Path (now turns) depth ⌝ }
-    ensures { λ r. ⌜ (placeAt (now (turns .exit)) r ≡ backFrom (turnsIn (now (turns .entry)) depth) (incumbent best starts)) × Path (now (turns .exit)) (r .depth) ⌝ }
-{
-    let left = go_back(turns, depth);
-    Walk {
-        depth: left,
-        best: best,
-        starts: starts,
-        ended: left == 0,
-    }
-}
-
-// One node. The arrays hold the batch's delays, its jobs' ticks and its clashes' codes.
-pub fn visit(
-    turns: &mut [u16; 1024],
+// The least starts of a node and their latency, in place of starts that are all 0, if there are any and they end below best. If not, false.
+fn reach(
     walk: Walk,
     sizes: Sizes,
     from: &[u8; 128],
@@ -60,38 +50,168 @@ pub fn visit(
     code: &[u16; 128],
     ticks: &[u8; 24],
     codes: &[u16; 1024],
-) -> Walk
-    requires { ⌜ Ready sizes (now from) (now to) (now code) (now ticks) (now codes) (now turns) walk ⌝ }
-    ensures { λ r. ⌜ Visited sizes (now (from .entry)) (now (to .entry)) (now (code .entry)) (now (ticks .entry)) (now (codes .entry)) (now (turns .entry)) walk (now (turns .exit)) r ⌝ }
+    pair: &[u16; 276],
+    held: &[u32; 276],
+    end: &[u16; 276],
+    turns: &[u16; 1024],
+    tail: &[u8; 1024],
+    head: &[u8; 1024],
+    gap: &[u16; 1024],
+    rows: &[[u16; 24]; 32],
+    tags: &[u16; 32],
+    ends: &[u16; 32],
+    starts: &mut [u16; 24],
+    latency: &mut u16,
+) -> bool
+    requires { ⌜ Ready sizes (record { from = now from; to = now to; code = now code; ticks = now ticks; codes = now codes; pair = now pair; held = now held; end = now end }) (record { turns = now turns; tail = now tail; head = now head; gap = now gap; rows = now rows; tags = now tags; ends = now ends }) walk ⌝ }
+    requires { ⌜ now starts ≡ replicate 24 0 ⌝ }
+    ensures { λ r. ⌜ Reaches sizes (record { from = now (from .entry); to = now (to .entry); code = now (code .entry); ticks = now (ticks .entry); codes = now (codes .entry); pair = now (pair .entry); held = now (held .entry); end = now (end .entry) }) (record { turns = now (turns .entry); tail = now (tail .entry); head = now (head .entry); gap = now (gap .entry); rows = now (rows .entry); tags = now (tags .entry); ends = now (ends .entry) }) walk r (now (starts .exit)) (now (latency .exit)) ⌝ }
 {
     let depth = walk.depth;
     let best = walk.best;
-    let kept = walk.starts;
-    let least = least_starts(
+    let bound = bound_of(best);
+    let first = begin(
+        rows,
+        tags,
+        ends,
+        tail,
+        head,
+        gap,
+        depth,
+        ticks,
+        sizes.longest,
+        starts,
+    );
+    *latency = first;
+    if bound <= first {
+        return false;
+    }
+    least_starts(
         sizes.jobs,
         sizes.delays,
         from,
         to,
         code,
-        ticks,
-        sizes.longest,
-        codes,
-        turns,
+        tail,
+        head,
+        gap,
         depth,
-    );
-    if !least.found {
-        return gone_back(turns, depth, best, kept);
+        ticks,
+        bound,
+        starts,
+        latency,
+    )
+}
+
+// The search gone back with this best, and the inequality of the turn that was set to side 1; if no turn is left, it has ended.
+fn gone_back(
+    turns: &mut [u16; 1024],
+    tail: &mut [u8; 1024],
+    head: &mut [u8; 1024],
+    gap: &mut [u16; 1024],
+    codes: &[u16; 1024],
+    depth: usize,
+    best: Best,
+    starts: [u16; 24],
+) -> Walk
+    requires { ⌜ Path (now turns) depth × Coded (now codes) (now turns) depth ⌝ }
+    requires { ⌜ Steps (now codes) (now turns) depth (now tail) (now head) (now gap) ⌝ }
+    ensures { λ r. ⌜ Returned (now (codes .entry)) (now (turns .entry)) depth best starts (now (turns .exit)) (now (tail .exit)) (now (head .exit)) (now (gap .exit)) r ⌝ }
+{
+    let left = go_back(turns, depth);
+    if left == 0 {
+        return Walk {
+            depth: left,
+            best: best,
+            starts: starts,
+            ended: true,
+        };
     }
-    let starts = least.starts;
-    let latency = least.latency;
-    if prunes(best, latency) {
-        return gone_back(turns, depth, best, kept);
+    let last = left - 1;
+    let turn = turns[last];
+    let c = wide16(turn / 2);
+    store_turn(tail, head, gap, last, codes[c], turn);
+    Walk {
+        depth: left,
+        best: best,
+        starts: starts,
+        ended: false,
     }
-    let met = first_met(codes, sizes.clashes, &starts);
+}
+
+// One node.
+pub fn visit(
+    walk: Walk,
+    sizes: Sizes,
+    from: &[u8; 128],
+    to: &[u8; 128],
+    code: &[u16; 128],
+    ticks: &[u8; 24],
+    codes: &[u16; 1024],
+    pair: &[u16; 276],
+    held: &[u32; 276],
+    end: &[u16; 276],
+    turns: &mut [u16; 1024],
+    tail: &mut [u8; 1024],
+    head: &mut [u8; 1024],
+    gap: &mut [u16; 1024],
+    rows: &mut [[u16; 24]; 32],
+    tags: &mut [u16; 32],
+    ends: &mut [u16; 32],
+) -> Walk
+    requires { ⌜ Ready sizes (record { from = now from; to = now to; code = now code; ticks = now ticks; codes = now codes; pair = now pair; held = now held; end = now end }) (record { turns = now turns; tail = now tail; head = now head; gap = now gap; rows = now rows; tags = now tags; ends = now ends }) walk ⌝ }
+    ensures { λ r. ⌜ Visited sizes (record { from = now (from .entry); to = now (to .entry); code = now (code .entry); ticks = now (ticks .entry); codes = now (codes .entry); pair = now (pair .entry); held = now (held .entry); end = now (end .entry) }) (record { turns = now (turns .entry); tail = now (tail .entry); head = now (head .entry); gap = now (gap .entry); rows = now (rows .entry); tags = now (tags .entry); ends = now (ends .entry) }) walk (record { turns = now (turns .exit); tail = now (tail .exit); head = now (head .exit); gap = now (gap .exit); rows = now (rows .exit); tags = now (tags .exit); ends = now (ends .exit) }) r ⌝ }
+{
+    let depth = walk.depth;
+    let best = walk.best;
+    let kept = walk.starts;
+    let mut starts = [0u16; 24];
+    let mut latency: u16 = 0;
+    if !reach(
+        walk,
+        sizes,
+        from,
+        to,
+        code,
+        ticks,
+        codes,
+        pair,
+        held,
+        end,
+        turns,
+        tail,
+        head,
+        gap,
+        rows,
+        tags,
+        ends,
+        &mut starts,
+        &mut latency,
+    ) {
+        return gone_back(turns, tail, head, gap, codes, depth, best, kept);
+    }
+    let low = unmet(pair, held, end, sizes.pairs, &starts);
+    let met = first_met(codes, low, sizes.clashes, &starts);
     let Met::Clash(clash) = met else {
-        return gone_back(turns, depth, Best::Latency(latency), starts);
+        return gone_back(
+            turns,
+            tail,
+            head,
+            gap,
+            codes,
+            depth,
+            Best::Latency(latency),
+            starts,
+        );
     };
-    turns[depth] = 2 * clash;
+    let turn = 2 * clash;
+    let c = wide16(clash);
+    turns[depth] = turn;
+    store_turn(tail, head, gap, depth, codes[c], turn);
+    let place = depth % 32;
+    rows[place] = starts;
+    tags[place] = depth as u16;
+    ends[place] = latency;
     Walk {
         depth: depth + 1,
         best: best,

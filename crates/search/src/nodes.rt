@@ -35,7 +35,6 @@ fn counted(tally: Tally) -> Tally
 
 // The nodes that the tally allows, fewer if the search ends before.
 pub fn visit_nodes(
-    turns: &mut [u16; 1024],
     start: Walk,
     budget: Tally,
     sizes: Sizes,
@@ -44,10 +43,20 @@ pub fn visit_nodes(
     code: &[u16; 128],
     ticks: &[u8; 24],
     codes: &[u16; 1024],
+    pair: &[u16; 276],
+    held: &[u32; 276],
+    end: &[u16; 276],
+    turns: &mut [u16; 1024],
+    tail: &mut [u8; 1024],
+    head: &mut [u8; 1024],
+    gap: &mut [u16; 1024],
+    rows: &mut [[u16; 24]; 32],
+    tags: &mut [u16; 32],
+    ends: &mut [u16; 32],
 ) -> Walked
     requires { ⌜ budget .total + budget .left ≤ 100000000 ⌝ }
-    requires { ⌜ Ready sizes (now from) (now to) (now code) (now ticks) (now codes) (now turns) start ⌝ }
-    ensures { λ r. ⌜ Walks sizes (now (from .entry)) (now (to .entry)) (now (code .entry)) (now (ticks .entry)) (now (codes .entry)) (now (turns .entry)) start budget (now (turns .exit)) r ⌝ }
+    requires { ⌜ Ready sizes (record { from = now from; to = now to; code = now code; ticks = now ticks; codes = now codes; pair = now pair; held = now held; end = now end }) (record { turns = now turns; tail = now tail; head = now head; gap = now gap; rows = now rows; tags = now tags; ends = now ends }) start ⌝ }
+    ensures { λ r. ⌜ Walks sizes (record { from = now (from .entry); to = now (to .entry); code = now (code .entry); ticks = now (ticks .entry); codes = now (codes .entry); pair = now (pair .entry); held = now (held .entry); end = now (end .entry) }) (record { turns = now (turns .entry); tail = now (tail .entry); head = now (head .entry); gap = now (gap .entry); rows = now (rows .entry); tags = now (tags .entry); ends = now (ends .entry) }) start budget (now (turns .exit)) r ⌝ }
 {
     let mut walk = start;
     let mut tally = budget;
@@ -56,7 +65,25 @@ pub fn visit_nodes(
             return Walked { walk, tally };
         }
         tally = counted(tally);
-        walk = visit(turns, walk, sizes, from, to, code, ticks, codes);
+        walk = visit(
+            walk,
+            sizes,
+            from,
+            to,
+            code,
+            ticks,
+            codes,
+            pair,
+            held,
+            end,
+            turns,
+            tail,
+            head,
+            gap,
+            rows,
+            tags,
+            ends,
+        );
     }
     Walked { walk, tally }
 }

@@ -5,15 +5,19 @@ use crate::node::Walk;
 use crate::nodes::Walked;
 use crate::nodes::visit_nodes;
 use crate::path::path_of;
+use clashes::find_pairs;
 use model::Answer;
 use model::Batch;
 use model::Ran;
 use model::Search;
 use model::Tally;
 use model::wide;
+use model::wide16;
 use soundness::Examined;
 use soundness::examine;
+use starts::delays::heaviest_of;
 use starts::delays::longest_of;
+use starts::turn::store_turn;
 ghost use mathlib.Core.Path.{_≡_};
 ghost use mathlib.Core.Bool.{true, false, not, _||_};
 ghost use lib.Dec.{leb};
@@ -21,7 +25,7 @@ ghost use Prim.Native.Nat.{_+_, _≤_};
 ghost use Rattle.model.specs.Search.{searchOf, nodes};
 ghost use Rattle.model.specs.Sound.{sound};
 ghost use Rattle.model.specs.Run.{ran};
-ghost use Rattle.search.specs.Walk.{placeAt};
+ghost use Rattle.search.specs.Walk.{Path, Coded, Steps, placeAt};
 ghost use Rattle.soundness.specs.Examined.{Prepared};
 
 // The record where a run has come to.
@@ -44,7 +48,40 @@ fn rebuilt(batch: Batch, turns: &[u16; 1024], walked: Walked) -> Search
     }
 }
 
-// A sound record that has not ended, after the budget's nodes. What they work on was examined, and the longest job is found here.
+// The inequalities of the first depth turns, each stored at its place.
+fn store_turns(
+    tail: &mut [u8; 1024],
+    head: &mut [u8; 1024],
+    gap: &mut [u16; 1024],
+    codes: &[u16; 1024],
+    turns: &[u16; 1024],
+    depth: usize,
+)
+    requires { ⌜ Path (now turns) depth × Coded (now codes) (now turns) depth ⌝ }
+    requires { ⌜ Steps (now codes) (now turns) 0 (now tail) (now head) (now gap) ⌝ }
+    ensures { λ _. ⌜ Steps (now (codes .entry)) (now (turns .entry)) depth (now (tail .exit)) (now (head .exit)) (now (gap .exit)) ⌝ }
+{
+    let mut k: usize = 0;
+    while k < depth {
+        let turn = turns[k];
+        let c = wide16(turn / 2);
+        store_turn(tail, head, gap, k, codes[c], turn);
+        k = k + 1;
+    }
+}
+
+// How many of the clashes a run takes by pairs: all, if it has the nodes to pay for finding the pairs, and else none.
+fn taken_by_pairs(count: usize, budget: u32) -> usize
+    ensures { λ r. ⌜ r ≤ count ⌝ }
+{
+    if budget < 8 {
+        return 0;
+    }
+    count
+}
+
+// A sound record that has not ended, after the budget's nodes. What they work on was examined; the longest job, the largest weight of each pair's delays,
+// the clashes by pairs and the turns' inequalities are found here.
 fn advance(search: Search, examined: Examined, budget: u32) -> Search
     requires { ⌜ (sound search ≡ true) × (search .ended ≡ false) ⌝ }
     requires { ⌜ search .total + budget ≤ 100000000 ⌝ }
@@ -59,17 +96,33 @@ fn advance(search: Search, examined: Examined, budget: u32) -> Search
     let delays = examined.delays;
     let from = delays.from;
     let to = delays.to;
-    let code = delays.code;
+    let weights = delays.code;
     let ticks = examined.ticks;
+    let depth = examined.depth;
     let mut turns = examined.turns;
+    let m = wide(batch.m);
+    let code = heaviest_of(m, &from, &to, &weights);
+    let mut pair = [0u16; 276];
+    let mut held = [0u32; 276];
+    let mut end = [0u16; 276];
+    let paired = taken_by_pairs(clashes.count, budget);
+    let pairs = find_pairs(&codes, paired, &mut pair, &mut held, &mut end);
+    let mut tail = [0u8; 1024];
+    let mut head = [0u8; 1024];
+    let mut gap = [0u16; 1024];
+    store_turns(&mut tail, &mut head, &mut gap, &codes, &turns, depth);
+    let mut rows = [[0u16; 24]; 32];
+    let mut tags = [65535u16; 32];
+    let mut ends = [0u16; 32];
     let sizes = Sizes {
         jobs: wide(batch.n),
-        delays: wide(batch.m),
+        delays: m,
         clashes: clashes.count,
+        pairs: pairs,
         longest: longest_of(&ticks),
     };
     let start = Walk {
-        depth: examined.depth,
+        depth: depth,
         best: best,
         starts: starts,
         ended: false,
@@ -79,7 +132,6 @@ fn advance(search: Search, examined: Examined, budget: u32) -> Search
         left: budget,
     };
     let walked = visit_nodes(
-        &mut turns,
         start,
         tally,
         sizes,
@@ -88,6 +140,16 @@ fn advance(search: Search, examined: Examined, budget: u32) -> Search
         &code,
         &ticks,
         &codes,
+        &pair,
+        &held,
+        &end,
+        &mut turns,
+        &mut tail,
+        &mut head,
+        &mut gap,
+        &mut rows,
+        &mut tags,
+        &mut ends,
     );
     rebuilt(batch, &turns, walked)
 }
@@ -103,13 +165,16 @@ fn overdrawn(ended: bool, total: u32, budget: u32) -> bool
     100000000 - budget < total
 }
 
-// A sound record after the budget's nodes; an ended search counts nothing.
+// A sound record after the budget's nodes; an ended search counts nothing, and nothing is made ready for no nodes.
 fn after_run(search: Search, examined: Examined, budget: u32) -> Search
     requires { ⌜ (sound search ≡ true) × ((search .ended || leb (search .total + budget) 100000000) ≡ true) ⌝ }
     requires { ⌜ Prepared search examined ⌝ }
     ensures { λ r. ⌜ r ≡ nodes budget search ⌝ }
 {
     if search.ended {
+        return search;
+    }
+    if budget == 0 {
         return search;
     }
     advance(search, examined, budget)

@@ -1,11 +1,12 @@
 -- The latency by the arrays is the latency of the definitions.
-use mathlib.Core.Path.{_≡_, refl, ap, _∙_}
+use mathlib.Core.Path.{_≡_, refl, ap, sym, _∙_}
 use mathlib.Core.List.{List, [], _∷_, _++_, map, foldr}
 use Prim.Native.Nat.{ℕ, zero, suc, _+_, _-_, _≤_, _<_, max}
 use native.Mathlib.Omega.{arith}
-use native.Mathlib.Decide.{decLt}
+use native.Mathlib.Decide.{decLt, ℕ-discrete}
 use native.Mathlib.Numerals.{add-one}
-use lib.ListN.{getD, length, replicate, List·getD-eq-default}
+use lib.ListN.{getD, set, length, replicate, List·getD-eq-default}
+use lib.Seq.{getD-set-same, getD-set-other}
 use Rattle.model.specs.declared.Batch.{Batch}
 use Rattle.model.specs.Common.{count, pad}
 use Rattle.model.specs.Batch.{ticks}
@@ -40,6 +41,39 @@ pub latency-mono : (ps a b : List ℕ) (k : ℕ) → ((j : ℕ) → j < k → ge
 unfolding latencyOf
 latency-mono ps a b zero h = omega arith
 latency-mono ps a b (suc k) h = omega (arith, latency-mono ps a b k (λ j p. h j (omega arith)), h k (omega arith))
+
+-- no start is above the latency
+pub latency-at : (ps ss : List ℕ) (k i : ℕ) → i < k → getD ss i 0 ≤ latencyOf ps ss k
+unfolding latencyOf
+latency-at ps ss zero i h = absurd (omega arith)
+latency-at ps ss (suc k) i h = go (ℕ-discrete i k) (latency-at ps ss k i)
+  where
+    go : Dec (i ≡ k) → (i < k → getD ss i 0 ≤ latencyOf ps ss k) → getD ss i 0 ≤ max (latencyOf ps ss k) (getD ss k 0 + getD ps k 0)
+    go (yes e) rec = omega (arith, ap (λ (x : ℕ). getD ss x 0) e)
+    go (no e) rec = omega (arith, rec (omega arith))
+
+-- nor is it above what no end passes
+pub latency-most : (ps ss : List ℕ) (most k : ℕ) → ((i : ℕ) → getD ss i 0 + getD ps i 0 ≤ most) → latencyOf ps ss k ≤ most
+unfolding latencyOf
+latency-most ps ss most zero h = omega arith
+latency-most ps ss most (suc k) h = omega (arith, latency-most ps ss most k h, h k)
+
+-- one start raised
+module _ (ps ss : List ℕ) (j v : ℕ) (inside : j < length ss) (up : getD ss j 0 ≤ v) where
+  latency-before : (k : ℕ) → k ≤ j → latencyOf ps (set ss j v) k ≡ latencyOf ps ss k
+  unfolding latencyOf
+  latency-before zero h = refl
+  latency-before (suc k) h = omega (arith, latency-before k (omega arith), getD-set-other ss j k v 0 (λ e. omega arith))
+
+  pub latency-set : (k : ℕ) → j < k → latencyOf ps (set ss j v) k ≡ max (latencyOf ps ss k) (v + getD ps j 0)
+  unfolding latencyOf
+  latency-set zero h = absurd (omega arith)
+  latency-set (suc k) h = go (ℕ-discrete j k) (latency-set k)
+    where
+      go : Dec (j ≡ k) → (j < k → latencyOf ps (set ss j v) k ≡ max (latencyOf ps ss k) (v + getD ps j 0))
+          → max (latencyOf ps (set ss j v) k) (getD (set ss j v) k 0 + getD ps k 0) ≡ max (max (latencyOf ps ss k) (getD ss k 0 + getD ps k 0)) (v + getD ps j 0)
+      go (yes e) rec = rw (← e) (omega (arith, latency-before j (omega arith), getD-set-same ss j v 0 inside))
+      go (no e) rec = omega (arith, rec (omega arith), getD-set-other ss j k v 0 (λ g. e (sym g)))
 
 -- without ticks it is 0
 pub longest-none : 0 ≡ longestOf (replicate 24 0)

@@ -1,125 +1,40 @@
--- What a caller wants to know: where the arrays hold a batch's delays and a path's turns, they meet what `least_starts` asks, its table
--- is the definition's table, after every round its starts and their latency are the definition's, and its answer is the definition's least starts.
-use mathlib.Core.Path.{_≡_, refl, sym, _∙_, ap}
-use mathlib.Core.Bool.{Bool, true, false}
+-- What a caller wants to know: where the arrays hold a batch's delays and a path's turns, they meet what `least_starts` asks, its table is the
+-- definition's table, after every round its starts and their latency are the definition's, and its answer tells of the definition's least starts.
+use mathlib.Core.Path.{_≡_, refl, sym, _∙_, ap, subst}
+use mathlib.Core.Logic.{_⊎_, inl, inr}
+use mathlib.Core.Bool.{true, false}
 use mathlib.Core.Option.{Option, none, some}
-use mathlib.Core.List.{List, [], _∷_, _++_, map, append-assoc, append-nil}
-use Prim.Native.Nat.{ℕ, zero, suc, _+_, _*_, _/_, _%_, _≤_, _<_, pred}
+use mathlib.Core.List.{List, [], _∷_, map, List·Memᴰ}
+use Prim.Native.Nat.{ℕ, suc, _+_, _*_, _/_, _≤_, _<_, pred}
 use native.Mathlib.Omega.{arith}
-use lib.ListN.{length, getD, take, replicate, length-map, List·getD-map}
-use lib.Seq.{take-suc, take-length, ext-getD}
-use lib.IntN.{ℤ, pos, _+ℤ_, _-ℤ_}
+use lib.ListN.{length, getD, length-map, List·getD-map}
+use lib.Seq.{ext-getD}
+use lib.IntN.{ℤ}
 use Rattle.model.specs.declared.Delay.{Delay}
 use Rattle.model.specs.declared.Batch.{Batch}
 use Rattle.model.specs.declared.Turn.{Turn}
-use Rattle.model.specs.Common.{if_then_else_, count, pad, isSome}
-use Rattle.model.specs.Batch.{delayOf, delaysOf}
+use Rattle.model.specs.Common.{count, pad}
+use Rattle.model.specs.Batch.{delaysOf}
 use Rattle.model.specs.Plan.{latency}
 use Rattle.model.specs.Clash.{Clash}
-use Rattle.model.specs.Starts.{entry, table, rounds, same, firstStarts, leastStarts}
-use Rattle.model.specs.Search.{noClash, sideOf, turned, inequalities, empty}
-use Rattle.model.proofs.SeqLaws.{map-snoc, listed-snoc, listed-at, listed-length}
-use Rattle.clashes.specs.Code.{codeOf}
-use Rattle.clashes.specs.First.{Named}
-use Rattle.starts.specs.declared.Least.{Least}
-use Rattle.starts.specs.Code.{coded, placeCode, ClashFits}
-use Rattle.starts.specs.Table.{putIn, turnIn, withDelays, withTurns, emptyTable, DelaysFit, TurnsFit}
-use Rattle.starts.specs.Rounds.{latencyAfter, roundsOf}
-use Rattle.starts.specs.Delays.{ticksRead}
-use Rattle.starts.specs.Latency.{latencyOf, longestOf}
-use Rattle.starts.specs.Least.{leastOf, leastAs, HoldsDelays, HoldsTurns}
-use Rattle.starts.proofs.CodeLaws.{coded-most, clash-i, clash-j, clash-d, side0-code, side0-limited, side1-code, side1-limited}
-use Rattle.starts.proofs.TableLaws.{turn-side0, turn-side1}
-use Rattle.starts.proofs.PlaceLaws.{codeAt, Tabled, empty-tabled, put-tabled}
-use Rattle.starts.proofs.RoundLaws.{rounds-are}
-use Rattle.starts.proofs.RaisedLaws.{rounds-length}
+use Rattle.model.specs.Starts.{entry, table, rounds, leastStarts}
+use Rattle.model.specs.Search.{turned, inequalities}
+use Rattle.model.proofs.BoolLaws.{apart}
+use Rattle.model.proofs.SeqLaws.{listed-at, listed-length}
+use Rattle.model.proofs.StartsLaws.{Inside, rounds-length}
+use Rattle.model.proofs.UnderLaws.{Under, under-rounds, round-more, settled-least, changed-none}
+use Rattle.starts.specs.Code.{placeCode}
+use Rattle.starts.specs.Table.{withPut, withStored, emptyTable}
+use Rattle.starts.specs.Rounds.{Reached, roundsOf}
+use Rattle.starts.specs.Delays.{heaviestOf, ticksRead}
+use Rattle.starts.specs.Latency.{latencyOf}
+use Rattle.starts.specs.Least.{Holds}
+use Rattle.starts.proofs.PlaceLaws.{codeAt, Tabled}
+use Rattle.starts.proofs.HeldLaws.{held-tabled, heavy-tabled}
 use Rattle.starts.proofs.LatencyLaws.{latency-padded}
-use Rattle.starts.proofs.SettledLaws.{after, after-is, settled-is}
+use Rattle.starts.proofs.FromLaws.{Changed, Ending, settled, stopped, used, Came, rounds-came}
 
--- ---- delays
-
-module _ (b : Batch) (few : b .n ≤ 24) (froms tos codes : List ℕ) (h : HoldsDelays b froms tos codes) where
-  pub delays-fit : DelaysFit froms tos codes (b .m)
-  delays-fit =
-      record {
-        from = λ k p. omega (arith, h .from k p, h .fromFits k p);
-        to = λ k p. omega (arith, h .to k p, h .toFits k p);
-        code = λ k p. omega (arith, h .code k p, coded-most (delayOf b k .weight) (h .weightFits k p));
-      }
-
-  pub delays-tabled : (k : ℕ) → k ≤ b .m → Tabled (b .n) (withDelays froms tos codes emptyTable k) (map (delayOf b) (count 0 k))
-  unfolding withDelays count
-  delays-tabled zero p = empty-tabled (b .n)
-  delays-tabled (suc k) p =
-      let l : k < b .m = omega arith in
-      rw (listed-snoc (delayOf b) k, h .from k l, h .to k l, h .code k l)
-      (put-tabled (b .n) few (withDelays froms tos codes emptyTable k) (map (delayOf b) (count 0 k)) (delays-tabled k (omega arith)) (delayOf b k)
-      (record { from = h .fromFits k l; to = h .toFits k l; weight = h .weightFits k l }))
-
--- ---- turns
-
--- the inequality of one side of a clash
-pub side-tabled : (n : ℕ) → n ≤ 24 → (t : List (List ℕ)) (qs : List Delay) → Tabled n t qs → (c : Clash) → ClashFits n c → (s turn code : ℕ) → s ≤ 1 → turn % 2 ≡ s → code ≡ codeOf c
-    → Tabled n (turnIn t code turn) (qs ++ (sideOf c s ∷ []))
-unfolding sideOf
-side-tabled n few t qs h c f zero turn code g p e =
-    let q : Delay = record { from = c .i; to = c .j; weight = c .d +ℤ pos 1 } in
-    let r : putIn t (c .i) (c .j) (coded (c .d +ℤ pos 1)) ≡ turnIn t code turn =
-    turn-side0 t _ code turn (c .i) (c .j) (rw e (sym (clash-i n few c f))) (rw e (sym (clash-j n few c f))) p
-    (ap (putIn t (c .i) (c .j)) (rw e (side0-code (c .d) (f .low) (f .high) ∙ omega (arith, clash-d n few c f)))) in
-    rw (← r) (put-tabled n few t qs h q (record { from = f .i; to = f .j; weight = side0-limited (c .d) (f .low) (f .high) }))
-side-tabled n few t qs h c f (suc zero) turn code g p e =
-    let q : Delay = record { from = c .j; to = c .i; weight = pos 1 -ℤ c .d } in
-    let r : putIn t (c .j) (c .i) (coded (pos 1 -ℤ c .d)) ≡ turnIn t code turn =
-    turn-side1 t _ code turn (c .i) (c .j) (rw e (sym (clash-i n few c f))) (rw e (sym (clash-j n few c f))) (λ z. omega arith)
-    (ap (putIn t (c .j) (c .i)) (rw e (side1-code (c .d) (f .low) (f .high) ∙ omega (arith, clash-d n few c f)))) in
-    rw (← r) (put-tabled n few t qs h q (record { from = f .j; to = f .i; weight = side1-limited (c .d) (f .low) (f .high) }))
-side-tabled n few t qs h c f (suc (suc s)) turn code g p e = absurd (omega arith)
-
-module _ (n : ℕ) (few : n ≤ 24) (cs : List Clash) (ts : List Turn) (clashes turns : List ℕ) (h : HoldsTurns n cs ts clashes turns) where
-  -- the clash that turn k is on
-  on : (k : ℕ) → k < length ts → getD turns k 0 / 2 ≡ getD ts k empty .clash
-  on k p = omega (arith, h .turn k p, h .side k p)
-
-  code-is : (k : ℕ) → k < length ts → getD clashes (getD turns k 0 / 2) 0 ≡ codeOf (getD cs (getD ts k empty .clash) noClash)
-  code-is k p = ap (λ (c : ℕ). getD clashes c 0) (on k p) ∙ h .code k p
-
-  pub turns-fit : TurnsFit clashes turns (length ts)
-  turns-fit =
-      record {
-        clash = λ k p. omega (arith, on k p, h .clash k p);
-        jobs = λ k p. rw (code-is k p) (fit (getD cs (getD ts k empty .clash) noClash) (h .fits k p));
-      }
-    where
-      fit : (c : Clash) → ClashFits n c → Named (codeOf c)
-      fit c f = record { first = omega (arith, clash-i n few c f, f .i); second = omega (arith, clash-j n few c f, f .j) }
-
-  pub turns-tabled : (t : List (List ℕ)) (qs : List Delay) → Tabled n t qs → (k : ℕ) → k ≤ length ts → Tabled n (withTurns clashes turns t k) (qs ++ map (turned cs) (take k ts))
-  unfolding withTurns turned
-  turns-tabled t qs d zero p = rw append-nil d
-  turns-tabled t qs d (suc k) p =
-      let l : k < length ts = omega arith in
-      let u : Turn = getD ts k empty in
-      let s : qs ++ map (turned cs) (take (suc k) ts) ≡ (qs ++ map (turned cs) (take k ts)) ++ (turned cs u ∷ []) =
-      ap (λ (l : List Turn). qs ++ map (turned cs) l) (take-suc ts k empty l)
-      ∙ ap (λ (l : List Delay). qs ++ l) (map-snoc (turned cs) (take k ts) u) ∙ sym (append-assoc qs (map (turned cs) (take k ts)) (turned cs u ∷ [])) in
-      rw s
-      (side-tabled n few (withTurns clashes turns t k) (qs ++ map (turned cs) (take k ts)) (turns-tabled t qs d k (omega arith)) (getD cs (u .clash) noClash) (h .fits k l)
-      (u .side) (getD turns k 0) (getD clashes (getD turns k 0 / 2) 0) (h .side k l) (omega (arith, h .turn k l, h .side k l)) (code-is k l))
-
--- the table that is filled from the delays and the turns holds the path's inequalities
-path-tabled : (b : Batch) (cs : List Clash) (ts : List Turn) (froms tos codes clashes turns : List ℕ) → b .n ≤ 24 → HoldsDelays b froms tos codes → HoldsTurns (b .n) cs ts clashes turns
-    → Tabled (b .n) (withTurns clashes turns (withDelays froms tos codes emptyTable (b .m)) (length ts)) (inequalities cs b ts)
-unfolding inequalities delaysOf
-path-tabled b cs ts froms tos codes clashes turns few hd ht =
-    let e : map (turned cs) (take (length ts) ts) ≡ map (turned cs) ts = ap (map (turned cs)) (take-length ts) in
-    rw e at (turns-tabled (b .n) few cs ts clashes turns ht _ _ (delays-tabled b few froms tos codes hd (b .m) (omega arith)) (length ts) (omega arith))
-
--- no turns at all
-pub no-turns : (clashes turns : List ℕ) → TurnsFit clashes turns 0
-no-turns clashes turns = record { clash = λ k p. absurd (omega arith); jobs = λ k p. absurd (omega arith) }
-
--- ---- the answer
+-- ---- the table
 
 -- the table that `least_starts` fills is the definition's, place by place
 pub table-is : (n : ℕ) (t : List (List ℕ)) (qs : List Delay) → Tabled n t qs → t ≡ map (map placeCode) (table qs)
@@ -143,6 +58,21 @@ table-is n t qs h =
         ∙ sym (List·getD-map placeCode (line i) j none ∙ ap placeCode (listed-at (λ j. entry qs i j) none 24 j (omega (arith, h .wide i p)))))
         ∙ sym (List·getD-map (map placeCode) (table qs) i [] ∙ ap (map placeCode) (listed-at line [] 24 i p))
 
+-- the table of a path: the delays, stored with the largest codes of their pairs, and then the turns
+abbrev pub pathTable : ℕ → List ℕ → List ℕ → List ℕ → List ℕ → List ℕ → List ℕ → ℕ → List (List ℕ)
+pathTable m froms tos codes tails heads gaps depth = withPut tails heads gaps (withStored froms tos (heaviestOf m froms tos codes) emptyTable m) depth
+
+-- it holds the path's inequalities
+pub path-tabled : (b : Batch) (cs : List Clash) (ts : List Turn) (m depth : ℕ) (froms tos codes tails heads gaps : List ℕ) → b .n ≤ 24 → m ≤ 128 → m ≡ length (delaysOf b) → depth ≡ length ts
+    → Holds (b .n) (delaysOf b) froms tos codes → Holds (b .n) (map (turned cs) ts) tails heads gaps
+    → Tabled (b .n) (pathTable m froms tos codes tails heads gaps depth) (inequalities cs b ts)
+unfolding inequalities
+path-tabled b cs ts m depth froms tos codes tails heads gaps few most e d hd ht =
+    rw (e, d ∙ sym (length-map ts (turned cs)))
+    (held-tabled (b .n) few (map (turned cs) ts) tails heads gaps ht _ (delaysOf b) (heavy-tabled (b .n) few (delaysOf b) froms tos codes hd (omega arith)))
+
+-- ---- the rounds of the code, over any table that holds a list of inequalities
+
 -- fours of rows that have n rows and no more than 24
 fours-low : (n : ℕ) → n ≤ 4 * ((n + 3) / 4)
 fours-low n = omega arith
@@ -150,66 +80,77 @@ fours-low n = omega arith
 pub fours-high : (n : ℕ) → n ≤ 24 → 4 * ((n + 3) / 4) ≤ 24
 fours-high n h = omega arith
 
--- the rounds of the code, over any table that holds a list of inequalities
-module _ (b : Batch) (few : b .n ≤ 24) (t : List (List ℕ)) (qs : List Delay) (h : Tabled (b .n) t qs) where
-  -- what k rounds leave, from starts that are all 0
-  abbrev left : List ℕ → ℕ → Least
-  left ticks k = roundsOf t ticks ((b .n + 3) / 4) (replicate 24 0) (longestOf ticks) k
+-- the inequalities of a table are between its jobs
+inside : (n : ℕ) (t : List (List ℕ)) (qs : List Delay) → Tabled n t qs → Inside n qs
+unfolding Inside
+inside n t qs h q m = (h .fits q m .from, h .fits q m .to)
 
-  round-starts : (ticks : List ℕ) (k : ℕ) → k ≤ b .n → left ticks k .starts ≡ pad 24 0 (after (b .n) qs k)
-  unfolding roundsOf
-  round-starts ticks k p = after-is (b .n) few t qs h _ (fours-low (b .n)) (fours-high (b .n) few) k p
+module _ (n : ℕ) (few : n ≤ 24) (t : List (List ℕ)) (qs : List Delay) (h : Tabled n t qs) (base ticks : List ℕ) (len : length base ≡ n) (bound : ℕ) (limit : bound ≤ 23017) (latency : ℕ) (l : latency ≡ latencyOf ticks (pad 24 0 base) 24) (b : latency < bound) where
+  -- what at most k rounds leave
+  abbrev pub left : ℕ → Reached
+  left k = roundsOf t ticks ((n + 3) / 4) bound (pad 24 0 base) latency k
 
-  round-latency : (k : ℕ) → k ≤ b .n → left (ticksRead b) k .latency ≡ latency b (after (b .n) qs k)
-  unfolding longestOf
-  round-latency k p =
-      ap (λ (l : Least). l .latency) (rounds-are t _ (ticksRead b) (replicate 24 0) _ refl k)
-      ∙ ap (λ (l : List ℕ). latencyOf (ticksRead b) l 24) (after-is (b .n) few t qs h _ (fours-low (b .n)) (fours-high (b .n) few) k p)
-      ∙ latency-padded b few (after (b .n) qs k) (rounds-length (b .n) qs k)
+  pub came : (k : ℕ) → Came qs base ticks bound k (left k)
+  came k = rounds-came n few t qs h _ (fours-low n) (fours-high n few) base ticks len bound limit k latency l b
 
-  round-found : (ticks : List ℕ) → 1 ≤ b .n → left ticks (b .n) .found ≡ same (after (b .n) qs (b .n)) (after (b .n) qs (pred (b .n)))
-  unfolding roundsOf
-  round-found ticks one = settled-is (b .n) few t qs h _ (fours-low (b .n)) (fours-high (b .n) few) one
-
--- 02, Q-2: after every round of a node, from 0 on, the running latency (the longest job's ticks, raised by each round's starts) is the latency of
--- that round's starts, whether or not there are least starts in the end
-pub every-round : (b : Batch) (cs : List Clash) (ts : List Turn) (froms tos codes clashes turns : List ℕ) → b .n ≤ 24 → HoldsDelays b froms tos codes → HoldsTurns (b .n) cs ts clashes turns → (k : ℕ) → k ≤ b .n
-    → latencyAfter (withTurns clashes turns (withDelays froms tos codes emptyTable (b .m)) (length ts)) (ticksRead b) ((b .n + 3) / 4) (replicate 24 0) (longestOf (ticksRead b)) k
-    ≡ latency b (rounds (inequalities cs b ts) (firstStarts (b .n)) k)
-unfolding roundsOf
-every-round b cs ts froms tos codes clashes turns few hd ht k p =
-    round-latency b few _ _ (path-tabled b cs ts froms tos codes clashes turns few hd ht) k p
-
--- there are least starts where round n changes nothing, and they are those after it
-module _ (n : ℕ) (qs : List Delay) where
-  some-is : isSome (leastStarts n qs) ≡ same (after n qs n) (after n qs (pred n))
-  unfolding leastStarts isSome if_then_else_
-  some-is = go (same (after n qs n) (after n qs (pred n)))
+  -- where a round changed nothing, the latency is below the bound
+  pub found-below : left n .found ≡ true → left n .latency < bound
+  found-below f = go (came n .ending)
     where
-      go : (p : Bool) → isSome (if p then some (after n qs n) else none) ≡ p
-      go true = refl
-      go false = refl
+      go : Ending qs base bound n (came n .j) (left n) → left n .latency < bound
+      go (settled _ _ p) = p
+      go (stopped e _ _) = apart (sym e ∙ f)
+      go (used e _ _) = apart (sym e ∙ f)
 
-  pub found-some : isSome (leastStarts n qs) ≡ true → leastStarts n qs ≡ some (after n qs n)
-  unfolding leastStarts if_then_else_
-  found-some h = let e : same (after n qs n) (after n qs (pred n)) ≡ true = sym some-is ∙ h in rw e
+  module _ (one : 1 ≤ n) (u : Under qs base) where
+    -- if round n still changes something, there are none
+    pub changed-least : (j : ℕ) → j ≡ n → Changed qs base j → leastStarts n qs ≡ none
+    changed-least j e c =
+        let z : j ≡ suc (pred n) = omega arith in
+        changed-none n qs (inside n t qs h) base len u (pred n) (omega arith) (λ s. c (omega arith) (ap (rounds qs base) z ∙ s ∙ ap (λ (i : ℕ). rounds qs base (pred i)) (sym e)))
 
-  pub found-none : isSome (leastStarts n qs) ≡ false → leastStarts n qs ≡ none
-  unfolding leastStarts if_then_else_
-  found-none h = let e : same (after n qs n) (after n qs (pred n)) ≡ false = sym some-is ∙ h in rw e
+    -- a round without change: the least starts
+    pub found-least : left n .found ≡ true → leastStarts n qs ≡ some (rounds qs base (came n .j))
+    found-least f = go (came n .ending)
+      where
+        go : Ending qs base bound n (came n .j) (left n) → leastStarts n qs ≡ some (rounds qs base (came n .j))
+        go (settled _ e _) = settled-least n qs (inside n t qs h) _ (rounds-length qs base _ ∙ len) (under-rounds qs base u _) (round-more qs base _ ∙ e)
+        go (stopped e _ _) = apart (sym e ∙ f)
+        go (used e _ _) = apart (sym e ∙ f)
 
--- the least starts of the delays and the turns
-pub least-law : (b : Batch) (cs : List Clash) (ts : List Turn) (froms tos codes clashes turns : List ℕ) → 1 ≤ b .n → b .n ≤ 24 → HoldsDelays b froms tos codes → HoldsTurns (b .n) cs ts clashes turns
-    → leastOf (b .n) (b .m) froms tos codes (ticksRead b) clashes turns (length ts) ≡ leastAs b (inequalities cs b ts)
-unfolding leastOf leastAs
-least-law b cs ts froms tos codes clashes turns one few hd ht =
-    let h = path-tabled b cs ts froms tos codes clashes turns few hd ht in
-    let n = b .n in
-    rw (← round-starts b few _ _ h (ticksRead b) n (omega arith), ← round-latency b few _ _ h n (omega arith), some-is n _, ← round-found b few _ _ h (ticksRead b) one)
+    -- none: there are no least starts, or the bound was reached
+    pub lost-least : left n .found ≡ false → (leastStarts n qs ≡ none) ⊎ (bound ≤ left n .latency)
+    lost-least f = go (came n .ending)
+      where
+        go : Ending qs base bound n (came n .j) (left n) → (leastStarts n qs ≡ none) ⊎ (bound ≤ left n .latency)
+        go (settled e _ _) = apart (sym f ∙ e)
+        go (stopped _ p _) = inr p
+        go (used _ e c) = inl (changed-least _ e c)
 
--- with no turns: whether the delays alone have least starts, whatever the ticks are
-pub least-delays : (b : Batch) (froms tos codes ticks clashes turns : List ℕ) → 1 ≤ b .n → b .n ≤ 24 → HoldsDelays b froms tos codes
-    → leastOf (b .n) (b .m) froms tos codes ticks clashes turns 0 .found ≡ isSome (leastStarts (b .n) (delaysOf b))
-unfolding leastOf delaysOf withTurns
-least-delays b froms tos codes ticks clashes turns one few h =
-    round-found b few _ _ (delays-tabled b few froms tos codes h (b .m) (omega arith)) ticks one ∙ sym (some-is (b .n) _)
+-- 02, Q-2: whatever starts a node's rounds begin with, after every round, from 0 on, the running latency is the latency of that round's starts, whether
+-- or not there are least starts in the end. k rounds are taken, fewer only where one changed nothing or the latency came to the bound
+pub every-round : (b : Batch) (cs : List Clash) (ts : List Turn) (m depth : ℕ) (froms tos codes tails heads gaps : List ℕ) → b .n ≤ 24 → m ≤ 128 → m ≡ length (delaysOf b) → depth ≡ length ts
+    → Holds (b .n) (delaysOf b) froms tos codes → Holds (b .n) (map (turned cs) ts) tails heads gaps
+    → (base : List ℕ) → length base ≡ b .n → (bound first : ℕ) → bound ≤ 23017 → first ≡ latencyOf (ticksRead b) (pad 24 0 base) 24 → first < bound → (k : ℕ) (r : Reached)
+    → r ≡ roundsOf (pathTable m froms tos codes tails heads gaps depth) (ticksRead b) ((b .n + 3) / 4) bound (pad 24 0 base) first k
+    → (j : ℕ) × (r .starts ≡ pad 24 0 (rounds (inequalities cs b ts) base j)) × (r .latency ≡ latency b (rounds (inequalities cs b ts) base j))
+    × ((j ≡ k) ⊎ ((j ≤ k) × ((r .found ≡ true) ⊎ (bound ≤ r .latency))))
+every-round b cs ts m depth froms tos codes tails heads gaps few most e d hd ht base len bound first limit l p k r g =
+    subst Told (sym g) (c .j, c .starts, c .latency ∙ latency-padded b few _ (rounds-length qs base _ ∙ len), go (c .ending))
+  where
+    qs : List Delay
+    qs = inequalities cs b ts
+
+    reached : Reached
+    reached = roundsOf (pathTable m froms tos codes tails heads gaps depth) (ticksRead b) ((b .n + 3) / 4) bound (pad 24 0 base) first k
+
+    Told : Reached → Type 0
+    Told r = (j : ℕ) × (r .starts ≡ pad 24 0 (rounds qs base j)) × (r .latency ≡ latency b (rounds qs base j)) × ((j ≡ k) ⊎ ((j ≤ k) × ((r .found ≡ true) ⊎ (bound ≤ r .latency))))
+
+    c : Came qs base (ticksRead b) bound k reached
+    c = came (b .n) few _ qs (path-tabled b cs ts m depth froms tos codes tails heads gaps few most e d hd ht) base (ticksRead b) len bound limit first l p k
+
+    go : Ending qs base bound k (c .j) reached → (c .j ≡ k) ⊎ ((c .j ≤ k) × ((reached .found ≡ true) ⊎ (bound ≤ reached .latency)))
+    go (settled f _ _) = inr (c .most, inl f)
+    go (stopped _ f _) = inr (c .most, inr f)
+    go (used _ f _) = inl f

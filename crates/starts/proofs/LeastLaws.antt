@@ -3,18 +3,15 @@ use mathlib.Core.Path.{_≡_}
 use mathlib.Core.List.{List}
 use Prim.Native.Nat.{ℕ, _+_, _/_}
 use native.Mathlib.Omega.{arith}
-use lib.ListN.{replicate}
-use Rattle.starts.specs.declared.Least.{Least}
-use Rattle.starts.specs.Rounds.{SmallRows, roundsOf}
-use Rattle.starts.specs.Latency.{longestOf}
-use Rattle.starts.specs.Table.{withDelays, withTurns, emptyTable, DelaysFit}
+use Rattle.starts.specs.Rounds.{SmallRows, Reached, roundsOf}
+use Rattle.starts.specs.Table.{withPut, withStored, emptyTable, Placed}
 use Rattle.starts.specs.Least.{leastOf}
-use Rattle.starts.proofs.TableLaws.{empty-small, delays-small, turns-small}
+use Rattle.starts.proofs.TableLaws.{empty-small, puts-small, stores-small}
 
-module _ (m : ℕ) (froms tos codes clashes turns : List ℕ) (depth : ℕ) (t u : List (List ℕ)) (p : t ≡ withDelays froms tos codes emptyTable m) (q : u ≡ withTurns clashes turns t depth) where
-  pub table-small : DelaysFit froms tos codes m → SmallRows u
-  table-small f = rw (q, p) (turns-small clashes turns _ depth (delays-small froms tos codes emptyTable m m f (omega arith) empty-small))
+module _ (m depth : ℕ) (froms tos codes tails heads gaps : List ℕ) (t u : List (List ℕ)) (p : t ≡ withStored froms tos codes emptyTable m) (q : u ≡ withPut tails heads gaps t depth) where
+  pub table-small : Placed froms tos codes m → Placed tails heads gaps depth → SmallRows u
+  table-small f g = rw (q, p) (puts-small tails heads gaps _ depth g (stores-small froms tos codes emptyTable m f empty-small m (omega arith)) depth (omega arith))
 
-  pub least-is : (n longest : ℕ) (ticks : List ℕ) → longest ≡ longestOf ticks → (r : Least) → r ≡ roundsOf u ticks ((n + 3) / 4) (replicate 24 0) longest n → r ≡ leastOf n m froms tos codes ticks clashes turns depth
+  pub least-is : (n bound latency : ℕ) (ticks starts : List ℕ) (r : Reached) → r ≡ roundsOf u ticks ((n + 3) / 4) bound starts latency n → r ≡ leastOf n m froms tos codes tails heads gaps depth ticks bound starts latency
   unfolding leastOf
-  least-is n longest ticks l r e = rw (e, q, p, l)
+  least-is n bound latency ticks starts r e = rw (e, q, p)

@@ -5,10 +5,12 @@ pub mod LatencyLaws
 pub mod RoundLaws
 pub mod TableLaws
 pub mod PlaceLaws
+pub mod HeldLaws
 pub mod RaisedLaws
-pub mod SettledLaws
+pub mod FromLaws
 pub mod DelaysLaws
 pub mod LeastLaws
+pub mod TurnLaws
 pub mod Law
 pub mod SoundLaws
 pub mod MetLaws

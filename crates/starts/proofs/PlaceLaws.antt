@@ -17,8 +17,9 @@ use borrow.Author.Tests.{eq-eqb, ne-eqb}
 use Rattle.model.specs.declared.Delay.{Delay}
 use Rattle.model.specs.Common.{if_then_else_}
 use Rattle.model.specs.Starts.{heavier, entry}
+use Rattle.model.proofs.BoolLaws.{and-false}
 use Rattle.starts.specs.Code.{coded, placeCode, Fits}
-use Rattle.starts.specs.Table.{putIn, emptyTable}
+use Rattle.starts.specs.Table.{storeIn, putIn, emptyTable}
 use Rattle.starts.proofs.CodeLaws.{coded-le, coded-gt}
 
 -- the code of the place for (i, j)
@@ -80,14 +81,55 @@ empty-tabled n =
       fits = λ q m. absurd (List·Memᴰ·not-nil m);
     }
 
+-- ---- one place of a table of 24 rows of 24 places
+
+module _ (t : List (List ℕ)) (rows : length t ≡ 24) (wide : (i : ℕ) → i < 24 → length (getD t i []) ≡ 24) (from to code : ℕ) (p : from < 24) (q : to < 24) where
+  pub store-rows : length (storeIn t from to code) ≡ 24
+  unfolding storeIn
+  store-rows = length-set t from _ ∙ rows
+
+  -- the row that is stored
+  row-same : getD (storeIn t from to code) from [] ≡ set (getD t from []) to code
+  unfolding storeIn
+  row-same = getD-set-same t from _ [] (omega arith)
+
+  row-other : (i : ℕ) → ¬ (i ≡ from) → getD (storeIn t from to code) i [] ≡ getD t i []
+  unfolding storeIn
+  row-other i e = getD-set-other t from i _ [] e
+
+  pub store-wide : (i : ℕ) → i < 24 → length (getD (storeIn t from to code) i []) ≡ 24
+  store-wide i a = go (ℕ-discrete i from)
+    where
+      go : Dec (i ≡ from) → length (getD (storeIn t from to code) i []) ≡ 24
+      go (yes e) = rw e (ap length row-same ∙ length-set (getD t from []) to code ∙ wide from p)
+      go (no e) = ap length (row-other i e) ∙ wide i a
+
+  pub store-same : getD (getD (storeIn t from to code) from []) to 0 ≡ code
+  store-same = ap (λ (r : List ℕ). getD r to 0) row-same ∙ getD-set-same (getD t from []) to code 0 (omega (arith, wide from p))
+
+  pub store-other : (i j : ℕ) → (i ≡ from → j ≡ to → ⊥) → getD (getD (storeIn t from to code) i []) j 0 ≡ getD (getD t i []) j 0
+  store-other i j e = go (ℕ-discrete i from)
+    where
+      go : Dec (i ≡ from) → getD (getD (storeIn t from to code) i []) j 0 ≡ getD (getD t i []) j 0
+      go (yes g) = rw g (ap (λ (r : List ℕ). getD r j 0) row-same ∙ getD-set-other (getD t from []) to j code 0 (e g))
+      go (no g) = ap (λ (r : List ℕ). getD r j 0) (row-other i g)
+
+-- an inequality for another pair
+pub other-pair : (q : Delay) (i j : ℕ) → (i ≡ q .from → j ≡ q .to → ⊥) → eqb (q .from) i && eqb (q .to) j ≡ false
+other-pair q i j e = go (ℕ-discrete i (q .from))
+  where
+    go : Dec (i ≡ q .from) → eqb (q .from) i && eqb (q .to) j ≡ false
+    go (yes g) = rw (ne-eqb (q .to) j (λ s. e g (sym s))) (and-false (eqb (q .from) i))
+    go (no g) = rw (ne-eqb (q .from) i (λ s. g (sym s)))
+
 module _ (n : ℕ) (few : n ≤ 24) (t : List (List ℕ)) (qs : List Delay) (h : Tabled n t qs) (q : Delay) (f : Fits n q) where
   -- one inequality more
   pub put-tabled : Tabled n (putIn t (q .from) (q .to) (coded (q .weight))) (qs ++ (q ∷ []))
   unfolding putIn kept
   put-tabled =
       record {
-        rows = length-set t (q .from) row ∙ h .rows;
-        wide = λ i a. wide i a (ℕ-discrete i (q .from));
+        rows = store-rows t (h .rows) (h .wide) (q .from) (q .to) _ from24 to24;
+        wide = store-wide t (h .rows) (h .wide) (q .from) (q .to) _ from24 to24;
         place = λ i j a b. at i j a b (ℕ-discrete i (q .from)) (ℕ-discrete j (q .to)) ∙ sym (code-snoc qs q i j);
         fits = λ p m. fit p (List·Memᴰ·append-cases qs m);
       }
@@ -98,34 +140,19 @@ module _ (n : ℕ) (few : n ≤ 24) (t : List (List ℕ)) (qs : List Delay) (h :
       from24 : q .from < 24
       from24 = omega (arith, f .from)
 
-      old : List ℕ
-      old = getD t (q .from) []
+      code : ℕ
+      code = max (getD (getD t (q .from) []) (q .to) 0) (coded (q .weight))
 
-      row : List ℕ
-      row = set old (q .to) (max (getD old (q .to) 0) (coded (q .weight)))
-
-      wide : (i : ℕ) → i < 24 → Dec (i ≡ q .from) → length (getD (set t (q .from) row) i []) ≡ 24
-      wide i a (yes e) =
-          rw e (ap length (getD-set-same t (q .from) row [] (omega (arith, h .rows, f .from))) ∙ length-set old (q .to) _ ∙ h .wide (q .from) from24)
-      wide i a (no e) = ap length (getD-set-other t (q .from) i row [] e) ∙ h .wide i a
-
-      unkept : (b : Bool) (x : ℕ) → kept (b && false) (coded (q .weight)) x ≡ x
-      unkept true x = refl
-      unkept false x = refl
+      other : (i j : ℕ) → i < 24 → j < 24 → (i ≡ q .from → j ≡ q .to → ⊥) → getD (getD (storeIn t (q .from) (q .to) code) i []) j 0 ≡ kept (eqb (q .from) i && eqb (q .to) j) (coded (q .weight)) (codeAt qs i j)
+      other i j a b e = store-other t (h .rows) (h .wide) (q .from) (q .to) code from24 to24 i j e ∙ h .place i j a b ∙ rw (other-pair q i j e)
 
       at : (i j : ℕ) → i < 24 → j < 24 → Dec (i ≡ q .from) → Dec (j ≡ q .to)
-          → getD (getD (set t (q .from) row) i []) j 0 ≡ kept (eqb (q .from) i && eqb (q .to) j) (coded (q .weight)) (codeAt qs i j)
+          → getD (getD (storeIn t (q .from) (q .to) code) i []) j 0 ≡ kept (eqb (q .from) i && eqb (q .to) j) (coded (q .weight)) (codeAt qs i j)
       at i j a b (yes e) (yes g) =
           rw (e, g, eq-eqb (q .from) (q .from) refl, eq-eqb (q .to) (q .to) refl)
-          (ap (λ (r : List ℕ). getD r (q .to) 0) (getD-set-same t (q .from) row [] (omega (arith, h .rows, f .from)))
-          ∙ getD-set-same old (q .to) _ 0 (omega (arith, h .wide (q .from) from24, f .to))
-          ∙ omega (arith, h .place (q .from) (q .to) from24 to24))
-      at i j a b (yes e) (no g) =
-          rw (e, ne-eqb (q .to) j (λ s. g (sym s)))
-          (ap (λ (r : List ℕ). getD r j 0) (getD-set-same t (q .from) row [] (omega (arith, h .rows, f .from)))
-          ∙ getD-set-other old (q .to) j _ 0 g ∙ h .place (q .from) j from24 b ∙ sym (unkept (eqb (q .from) (q .from)) (codeAt qs (q .from) j)))
-      at i j a b (no e) g =
-          rw (ne-eqb (q .from) i (λ s. e (sym s))) (ap (λ (r : List ℕ). getD r j 0) (getD-set-other t (q .from) i row [] e) ∙ h .place i j a b)
+          (store-same t (h .rows) (h .wide) (q .from) (q .to) code from24 to24 ∙ omega (arith, h .place (q .from) (q .to) from24 to24))
+      at i j a b (yes e) (no g) = other i j a b (λ _ s. g s)
+      at i j a b (no e) g = other i j a b (λ s _. e s)
 
       fit : (p : Delay) → List·Memᴰ p qs ⊎ List·Memᴰ p (q ∷ []) → Fits n p
       fit p (inl m) = h .fits p m

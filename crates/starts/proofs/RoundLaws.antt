@@ -7,16 +7,16 @@ use Prim.Native.Nat.{ℕ, zero, suc, _+_, _*_, _-_, _≤_, _<_, max}
 use native.Mathlib.Nat.{eq-or-lt-of-le, not-suc-le-zero}
 use native.Mathlib.Numerals.{add-one, sub-one}
 use native.Mathlib.Omega.{arith}
-use native.Mathlib.Decide.{ℕ-discrete}
+use native.Mathlib.Decide.{ℕ-discrete, decLt}
 use lib.Dec.{eqb}
-use lib.ListN.{getD, length}
+use lib.ListN.{getD, length, List·getD-eq-default}
 use lib.Seq.{ext-getD}
-use borrow.Author.Tests.{eqb-true, eq-eqb}
+use borrow.Author.Tests.{eqb-true, eq-eqb, le-leb, lt-leb}
+use Rattle.model.specs.Common.{if_then_else_}
 use Rattle.model.proofs.BoolLaws.{both, and-false}
-use Rattle.starts.specs.declared.Least.{Least}
-use Rattle.starts.specs.Rounds.{Small, SmallRows, Lifted, sumAt, largest, startOf, roundOf, raisedTo, liftedOf, loweredOf, fourRaised, sameTo, startsAfter, latencyAfter, settled, roundsOf}
+use Rattle.starts.specs.Rounds.{Small, SmallRows, Lifted, sumAt, largest, startOf, roundOf, raisedTo, liftedOf, loweredOf, fourRaised, sameTo, Reached, roundsOf}
 use Rattle.starts.specs.Latency.{latencyOf, raisedBy}
-use Rattle.starts.proofs.LatencyLaws.{latency-mono}
+use Rattle.starts.proofs.LatencyLaws.{latency-mono, latency-at}
 use Rattle.starts.proofs.FillLaws.{filled-length, filled-at, filled-cong, filled-small, small-more}
 
 -- ---- one start
@@ -132,11 +132,7 @@ same-at a b (suc k) e i h =
     go (yes q) rec t = rw q t
     go (no q) rec t = rec (omega arith)
 
--- the test finds no difference only if there is none
-same-is : (a b : List ℕ) (k : ℕ) → length a ≡ k → length b ≡ k → sameTo a b k ≡ true → a ≡ b
-same-is a b k p q e = ext-getD 0 a b (p ∙ sym q) (λ i h. same-at a b k e i (omega arith))
-
--- ---- k rounds: the first and then the others, as the code has them
+-- ---- k rounds, as the code has them
 
 -- a round lowers no start, and so no latency
 pub latency-rises : (table : List (List ℕ)) (ticks old : List ℕ) (k : ℕ) → latencyOf ticks old 24 ≤ latencyOf ticks (roundOf table old k) 24
@@ -145,79 +141,47 @@ latency-rises table ticks old k =
     latency-mono ticks old _ 24
     (λ j h. omega (arith, filled-at (λ j. largest table old j (getD old j 0 + 30000) k - 30000) 24 24 j (omega arith) h, largest-first table old j (getD old j 0 + 30000) k))
 
+-- starts whose latency is below a bound are small
+pub below-small : (ticks starts : List ℕ) (latency bound : ℕ) → length starts ≡ 24 → latency ≡ latencyOf ticks starts 24 → latency < bound → bound ≤ 23017 → Small starts 23016
+below-small ticks starts latency bound len l h b = record { each = λ i. go i (decLt i 24) }
+  where
+    go : (i : ℕ) → Dec (i < 24) → getD starts i 0 ≤ 23016
+    go i (yes p) = omega (arith, latency-at ticks starts 24 i p)
+    go i (no p) = omega (arith, List·getD-eq-default starts 0 {n = i} (omega arith))
+
 module _ (table : List (List ℕ)) (fours : ℕ) where
-  -- one round
-  abbrev next : List ℕ → List ℕ
-  next old = roundOf table old (4 * fours)
-
-  after-first : (old : List ℕ) (k : ℕ) → startsAfter table fours old (suc k) ≡ startsAfter table fours (next old) k
-  unfolding startsAfter
-  after-first old zero = refl
-  after-first old (suc k) = ap next (after-first old k)
-
-  -- where the first changes something, the last is the last of the others
-  settled-first : (old : List ℕ) (k : ℕ) → sameTo old (next old) 24 ≡ false → settled table fours old (suc k) ≡ settled table fours (next old) k
-  unfolding settled startsAfter
-  settled-first old zero h = h
-  settled-first old (suc k) h = rw (after-first old k)
-
-  -- no round changes anything after one that changed nothing
-  after-stays : (old : List ℕ) → old ≡ next old → (k : ℕ) → startsAfter table fours old k ≡ old
-  unfolding startsAfter
-  after-stays old e zero = refl
-  after-stays old e (suc k) = ap next (after-stays old e k) ∙ sym e
-
-  settled-stays : (old : List ℕ) → old ≡ next old → (k : ℕ) → settled table fours old (suc k) ≡ true
-  unfolding settled
-  settled-stays old e k = rw (after-stays old e k, after-stays old e (suc k)) (same-self old 24)
-
   -- what is handed on after a round
-  module _ (old new : List ℕ) (e : new ≡ next old) where
+  module _ (old new : List ℕ) (e : new ≡ roundOf table old (4 * fours)) where
     pub next-long : length new ≡ 24
     unfolding roundOf
     next-long = rw e (filled-length (λ j. startOf table old j (4 * fours)) 24 24)
 
-    pub next-small : (k : ℕ) → (k ≡ 0 → ⊥) → k ≤ 24 → SmallRows table → Small old (1000 * (24 - k)) → Small new (1000 * (24 - (k - 1)))
-    next-small k more b p q = rw e (small-more _ _ _ (omega arith) (round-small table old (4 * fours) _ p q))
+    pub next-small : SmallRows table → Small old 23016 → Small new 24016
+    next-small p q = rw e (round-small table old (4 * fours) 23016 p q)
 
     pub next-latency : (ticks : List ℕ) (latency risen : ℕ) → latency ≡ latencyOf ticks old 24 → risen ≡ raisedBy ticks new latency → risen ≡ latencyOf ticks new 24
     unfolding raisedBy
     next-latency ticks latency risen l h = h ∙ rw (l, e) (omega (arith, latency-rises table ticks old (4 * fours)))
 
-  -- after every round the running latency is that of the starts
-  module _ (ticks old : List ℕ) (latency : ℕ) (l : latency ≡ latencyOf ticks old 24) where
-    after-latency : (k : ℕ) → latencyAfter table ticks fours old latency k ≡ latencyOf ticks (startsAfter table fours old k) 24
-    unfolding latencyAfter startsAfter
-    after-latency zero = l
-    after-latency (suc k) = next-latency (startsAfter table fours old k) _ refl ticks _ _ (after-latency k) refl
-
-    pub rounds-are : (k : ℕ) → roundsOf table ticks fours old latency k ≡ record { starts = startsAfter table fours old k; latency = latencyOf ticks (startsAfter table fours old k) 24; found = settled table fours old k }
-    unfolding roundsOf
-    rounds-are k = rw (after-latency k)
-
   -- the cases of the code; the new starts, the test and the risen latency are results of calls
-  module _ (ticks old : List ℕ) (k latency : ℕ) (l : latency ≡ latencyOf ticks old 24) where
-    pub rounds-none : k ≡ 0 → record { starts = old; latency = latency; found = false } ≡ roundsOf table ticks fours old latency k
-    unfolding roundsOf startsAfter latencyAfter settled
-    rounds-none h = rw h
+  module _ (ticks old : List ℕ) (bound latency : ℕ) where
+    pub rounds-none : (k : ℕ) → k ≡ 0 → record { starts = old; latency = latency; found = false } ≡ roundsOf table ticks fours bound old latency k
+    unfolding roundsOf
+    rounds-none k h = rw h
 
-    module _ (new : List ℕ) (r : Bool) (more : k ≡ 0 → ⊥) (e : new ≡ next old) (s : r ≡ sameTo old new 24) where
-      pub rounds-end : length old ≡ 24 → r ≡ true → record { starts = old; latency = latency; found = true } ≡ roundsOf table ticks fours old latency k
-      rounds-end h p = go k more
-        where
-          stays : old ≡ next old
-          stays = same-is old new 24 h (next-long old new e) (sym s ∙ p) ∙ e
+    module _ (new : List ℕ) (r : Bool) (e : new ≡ roundOf table old (4 * fours)) (s : r ≡ sameTo old new 24) where
+      pub rounds-end : (k : ℕ) → (k ≡ 0 → ⊥) → r ≡ true → record { starts = old; latency = latency; found = true } ≡ roundsOf table ticks fours bound old latency k
+      unfolding roundsOf if_then_else_
+      rounds-end zero more p = absurd (more refl)
+      rounds-end (suc k) more p = rw (← e, ← s, p)
 
-          go : (k : ℕ) → (k ≡ 0 → ⊥) → record { starts = old; latency = latency; found = true } ≡ roundsOf table ticks fours old latency k
-          go zero z = absurd (z refl)
-          go (suc k) z = rw (rounds-are ticks old latency l (suc k), after-stays old stays (suc k), settled-stays old stays k, l)
+      module _ (risen : ℕ) (g : risen ≡ raisedBy ticks new latency) (p : r ≡ false) where
+        pub rounds-stop : (k : ℕ) → (k ≡ 0 → ⊥) → bound ≤ risen → record { starts = new; latency = risen; found = false } ≡ roundsOf table ticks fours bound old latency k
+        unfolding roundsOf if_then_else_
+        rounds-stop zero more h = absurd (more refl)
+        rounds-stop (suc k) more h = rw (← e, ← s, p, ← g, le-leb bound risen h)
 
-      pub rounds-on : r ≡ false → (risen : ℕ) → risen ≡ raisedBy ticks new latency → (x : Least) → x ≡ roundsOf table ticks fours new risen (k - 1) → x ≡ roundsOf table ticks fours old latency k
-      rounds-on p risen h x q = q ∙ rounds-are ticks new risen (next-latency old new e ticks latency risen l h) (k - 1) ∙ go k more
-        where
-          changed : sameTo old (next old) 24 ≡ false
-          changed = rw (← e) (sym s ∙ p)
-
-          go : (k : ℕ) → (k ≡ 0 → ⊥) → record { starts = startsAfter table fours new (k - 1); latency = latencyOf ticks (startsAfter table fours new (k - 1)) 24; found = settled table fours new (k - 1) } ≡ roundsOf table ticks fours old latency k
-          go zero z = absurd (z refl)
-          go (suc k) z = rw (rounds-are ticks old latency l (suc k), e, sub-one (suc k), after-first old k, settled-first old k changed)
+        pub rounds-on : (k : ℕ) → (k ≡ 0 → ⊥) → risen < bound → (x : Reached) → x ≡ roundsOf table ticks fours bound new risen (k - 1) → x ≡ roundsOf table ticks fours bound old latency k
+        unfolding roundsOf if_then_else_
+        rounds-on zero more h x q = absurd (more refl)
+        rounds-on (suc k) more h x q = q ∙ rw (← e, ← s, p, ← g, lt-leb bound risen h, sub-one (suc k))

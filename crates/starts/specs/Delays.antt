@@ -2,7 +2,8 @@
 use Prim.Native.Nat.{ℕ, _≤_}
 use mathlib.Core.Path.{_≡_}
 use mathlib.Core.Bool.{Bool, true, _&&_}
-use mathlib.Core.List.{List}
+use mathlib.Core.List.{List, []}
+use lib.ListN.{getD}
 use Rattle.model.specs.declared.Batch.{Batch}
 use Rattle.model.specs.Common.{all}
 use Rattle.model.specs.Batch.{delayOf, delaysOf, ticks}
@@ -11,6 +12,7 @@ use Rattle.starts.specs.declared.delays.Delays.{Delays}
 use Rattle.starts.specs.declared.delays.Reading.{Reading}
 use Rattle.starts.specs.Code.{coded}
 use Rattle.starts.specs.Rounds.{filled}
+use Rattle.starts.specs.Table.{withPut, emptyTable}
 
 -- 1 to 24 jobs, at most 128 delays, and each delay passes 5 and 6
 pub record DelaysSound (b : Batch) : Type 0 where
@@ -28,6 +30,10 @@ delaysRead b =
       to = filled (λ k. delayOf b k .to) 128 (b .m);
       code = filled (λ k. coded (delayOf b k .weight)) 128 (b .m);
     }
+
+-- the codes of the first m delays, each raised to the largest of its pair, and 0 past them
+unfoldable pub heaviestOf : ℕ → List ℕ → List ℕ → List ℕ → List ℕ
+heaviestOf m from to code = filled (λ k. getD (getD (withPut from to code emptyTable m) (getD from k 0) []) (getD to k 0) 0) 128 m
 
 -- each delay's jobs and weight are within their limits
 unfoldable pub delaysPass : Batch → Bool

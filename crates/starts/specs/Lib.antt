@@ -2,6 +2,7 @@
 pub mod Code
 pub mod Rounds
 pub mod Table
+pub mod Turn
 pub mod Delays
 pub mod Latency
 pub mod Least

@@ -3,8 +3,8 @@ use Prim.Native.Nat.{ℕ, zero, suc, _+_, _*_, _-_, _≤_, _<_, max}
 use mathlib.Core.Bool.{Bool, true, false, _&&_}
 use mathlib.Core.List.{List, []}
 use lib.ListN.{getD, set, replicate}
-use lib.Dec.{eqb}
-use Rattle.starts.specs.declared.Least.{Least}
+use lib.Dec.{eqb, leb}
+use Rattle.model.specs.Common.{if_then_else_}
 use Rattle.starts.specs.Latency.{raisedBy}
 
 -- every number of the list is at most the bound
@@ -65,22 +65,17 @@ sameTo a b (suc k) = eqb (getD a k 0) (getD b k 0) && sameTo a b k
 
 -- ---- k rounds over the first 4 * fours rows
 
--- the starts after them
-unfoldable pub startsAfter : List (List ℕ) → ℕ → List ℕ → ℕ → List ℕ
-startsAfter table fours old zero = old
-startsAfter table fours old (suc k) = roundOf table (startsAfter table fours old k) (4 * fours)
+-- what they leave: starts, their latency, and whether the last round changed nothing
+pub record Reached : Type 0 where
+  pub starts : List ℕ
+  pub latency : ℕ
+  pub found : Bool
 
--- the running latency, from that of the old starts on: each round's starts raise it
-unfoldable pub latencyAfter : List (List ℕ) → List ℕ → ℕ → List ℕ → ℕ → ℕ → ℕ
-latencyAfter table ticks fours old latency zero = latency
-latencyAfter table ticks fours old latency (suc k) = raisedBy ticks (startsAfter table fours old (suc k)) (latencyAfter table ticks fours old latency k)
-
--- whether the last of them changed nothing; where there is none, no
-unfoldable pub settled : List (List ℕ) → ℕ → List ℕ → ℕ → Bool
-settled table fours old zero = false
-settled table fours old (suc k) = sameTo (startsAfter table fours old k) (startsAfter table fours old (suc k)) 24
-
--- what they leave
-unfoldable pub roundsOf : List (List ℕ) → List ℕ → ℕ → List ℕ → ℕ → ℕ → Least
-roundsOf table ticks fours old latency k =
-    record { starts = startsAfter table fours old k; latency = latencyAfter table ticks fours old latency k; found = settled table fours old k }
+-- each round's starts raise the latency. A round that changes nothing ends them, and so does a latency at or above the bound
+unfoldable pub roundsOf : List (List ℕ) → List ℕ → ℕ → ℕ → List ℕ → ℕ → ℕ → Reached
+roundsOf table ticks fours bound old latency zero = record { starts = old; latency = latency; found = false }
+roundsOf table ticks fours bound old latency (suc k) =
+    let new = roundOf table old (4 * fours) in
+    let risen = raisedBy ticks new latency in
+    if sameTo old new 24 then record { starts = old; latency = latency; found = true }
+    else (if leb bound risen then record { starts = new; latency = risen; found = false } else roundsOf table ticks fours bound new risen k)

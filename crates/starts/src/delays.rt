@@ -1,5 +1,6 @@
 // A batch's delays as plain parallel arrays, its jobs' ticks and the longest of these: what a run works out once.
 use crate::latency::raised_latency;
+use crate::table::put_delays;
 use delay_array::array_columns;
 use delay_list::delay_at;
 use limits::delay_ok;
@@ -8,9 +9,10 @@ use model::wide;
 ghost use mathlib.Core.Path.{_≡_};
 ghost use Prim.Native.Nat.{_≤_};
 ghost use Rattle.starts.specs.Code.{Limited, coded};
+ghost use Rattle.starts.specs.Table.{Placed};
 ghost use Rattle.starts.specs.Rounds.{Small};
 ghost use Rattle.starts.specs.Latency.{longestOf};
-ghost use Rattle.starts.specs.Delays.{ReadsDelays, ticksRead};
+ghost use Rattle.starts.specs.Delays.{ReadsDelays, heaviestOf, ticksRead};
 
 // The first m places count: from, to, and the weight plus 30,000. The others are 0.
 pub struct Delays {
@@ -63,6 +65,25 @@ pub fn read_delays(batch: Batch) -> Reading
         passed: true,
         delays: Delays { from, to, code },
     }
+}
+
+// The codes of the first m delays, each raised to the largest of its pair, and 0 past them: so they can be stored in any order, without a comparison.
+pub fn heaviest_of(m: usize, from: &[u8; 128], to: &[u8; 128], code: &[u16; 128]) -> [u16; 128]
+    requires { ⌜ m ≤ 128 ⌝ }
+    requires { ⌜ Placed (now from) (now to) (now code) m ⌝ }
+    ensures { λ r. ⌜ r ≡ heaviestOf m (now (from .entry)) (now (to .entry)) (now (code .entry)) ⌝ }
+{
+    let mut table = [[0u16; 24]; 24];
+    put_delays(&mut table, m, from, to, code);
+    let mut heaviest = [0u16; 128];
+    let mut k: usize = 0;
+    while k < m {
+        let i = wide(from[k]);
+        let j = wide(to[k]);
+        heaviest[k] = table[i][j];
+        k = k + 1;
+    }
+    heaviest
 }
 
 // The ticks of each of the first n jobs, and 0 in the places past them.

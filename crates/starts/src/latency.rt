@@ -14,7 +14,7 @@ pub fn larger(a: u16, b: u16) -> u16
     a
 }
 
-fn ticks_wide(x: u8) -> u16
+pub fn ticks_wide(x: u8) -> u16
     ensures { λ r. ⌜ r ≡ x ⌝ }
 {
     x as u16
@@ -22,7 +22,7 @@ fn ticks_wide(x: u8) -> u16
 
 // The largest of a latency and the ends of these starts.
 pub fn raised_latency(latency: u16, ticks: &[u8; 24], starts: &[u16; 24]) -> u16
-    requires { ⌜ Small (now ticks) 16 × Small (now starts) 24000 ⌝ }
+    requires { ⌜ Small (now ticks) 16 × Small (now starts) 24016 ⌝ }
     ensures { λ r. ⌜ r ≡ raisedBy (now (ticks .entry)) (now (starts .entry)) latency ⌝ }
 {
     let mut latest = latency;

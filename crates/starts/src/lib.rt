@@ -1,58 +1,50 @@
 // Least starts (earliest start times) of a batch's delays and of the turns taken so far, by rounds over a local table of weights.
 // A place of the table holds 0 where it is empty, and a weight plus 30,000 otherwise.
 use crate::rounds::rounds;
-use crate::table::fill_delays;
-use crate::table::fill_turns;
+use crate::table::put_turns;
+use crate::table::store_delays;
 ghost use mathlib.Core.Path.{_≡_};
-ghost use Prim.Native.Nat.{_≤_};
-ghost use Rattle.starts.specs.Table.{DelaysFit, TurnsFit};
+ghost use Prim.Native.Nat.{_≤_, _<_};
+ghost use lib.ListN.{length};
+ghost use Rattle.starts.specs.Table.{Placed};
 ghost use Rattle.starts.specs.Rounds.{Small};
-ghost use Rattle.starts.specs.Latency.{longestOf};
+ghost use Rattle.starts.specs.Latency.{latencyOf};
 ghost use Rattle.starts.specs.Least.{leastOf};
 
 pub mod delays;
-mod latency;
+pub mod latency;
 pub mod met;
 mod rounds;
 mod table;
+pub mod turn;
 
-// The starts after n rounds, 0 in the places past n, their latency, and whether round n changed nothing: they are then the least starts, and
-// otherwise there are none.
-pub struct Least {
-    pub starts: [u16; 24],
-    pub latency: u16,
-    pub found: bool,
-}
-
-// The least starts of the first m delays and the first depth turns, with their latency. Turn 2 * c + s takes side s of the clash whose code is
-// clashes[c]. `longest` is the longest job's ticks: the latency after 0 rounds, when all starts are 0.
+// Rounds from the starts that are lent, over the first m delays, each with the largest weight of its pair, and the first depth turns, whose
+// inequalities go from `tail` to `head` with the code `gap`. The starts and their latency are raised in place, at most n times; a latency at or above the bound ends the rounds. Whether a round changed nothing is returned:
+// the starts are then the least ones, if they were at or below them before.
 pub fn least_starts(
     n: usize,
     m: usize,
     from: &[u8; 128],
     to: &[u8; 128],
     code: &[u16; 128],
-    ticks: &[u8; 24],
-    longest: u16,
-    clashes: &[u16; 1024],
-    turns: &[u16; 1024],
+    tail: &[u8; 1024],
+    head: &[u8; 1024],
+    gap: &[u16; 1024],
     depth: usize,
-) -> Least
+    ticks: &[u8; 24],
+    bound: u16,
+    starts: &mut [u16; 24],
+    latency: &mut u16,
+) -> bool
     requires { ⌜ (n ≤ 24) × ((m ≤ 128) × (depth ≤ 1024)) ⌝ }
-    requires { ⌜ DelaysFit (now from) (now to) (now code) m ⌝ }
-    requires { ⌜ TurnsFit (now clashes) (now turns) depth ⌝ }
-    requires { ⌜ Small (now ticks) 16 × (longest ≡ longestOf (now ticks)) ⌝ }
-    ensures { λ r. ⌜ r ≡ leastOf n m (now (from .entry)) (now (to .entry)) (now (code .entry)) (now (ticks .entry)) (now (clashes .entry)) (now (turns .entry)) depth ⌝ }
+    requires { ⌜ Placed (now from) (now to) (now code) m ⌝ }
+    requires { ⌜ Placed (now tail) (now head) (now gap) depth ⌝ }
+    requires { ⌜ Small (now ticks) 16 × (length (now starts) ≡ 24) ⌝ }
+    requires { ⌜ (now latency ≡ latencyOf (now ticks) (now starts) 24) × ((now latency < bound) × (bound ≤ 23017)) ⌝ }
+    ensures { λ r. ⌜ record { starts = now (starts .exit); latency = now (latency .exit); found = r } ≡ leastOf n m (now (from .entry)) (now (to .entry)) (now (code .entry)) (now (tail .entry)) (now (head .entry)) (now (gap .entry)) depth (now (ticks .entry)) bound (now (starts .entry)) (now (latency .entry)) ⌝ }
 {
     let mut table = [[0u16; 24]; 24];
-    fill_delays(&mut table, m, from, to, code);
-    fill_turns(&mut table, clashes, turns, depth);
-    let mut starts = [0u16; 24];
-    let mut latency = longest;
-    let found = rounds(&table, ticks, &mut starts, &mut latency, (n + 3) / 4, n);
-    Least {
-        starts: starts,
-        latency: latency,
-        found: found,
-    }
+    store_delays(&mut table, m, from, to, code);
+    put_turns(&mut table, depth, tail, head, gap);
+    rounds(&table, ticks, starts, latency, bound, (n + 3) / 4, n)
 }

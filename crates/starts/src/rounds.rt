@@ -1,17 +1,17 @@
 // Rounds over the table: each start after k rounds comes from the starts after k − 1. A round takes the table four rows at a time: that is as
 // much as it takes for the compiler to work on whole rows, and rows past n are empty, so they change nothing. The latency goes along: each round
-// raises it by the new starts.
+// raises it by the new starts, and where it is at or above a bound, the rounds end.
 use crate::latency::larger;
 use crate::latency::raised_latency;
 ghost use mathlib.Core.Path.{_≡_};
-ghost use Prim.Native.Nat.{_+_, _*_, _-_, _≤_, _<_};
+ghost use Prim.Native.Nat.{_*_, _≤_, _<_};
 ghost use lib.ListN.{length};
 ghost use Rattle.starts.specs.Rounds.{Small, SmallRows, Lifted, sumAt, liftedOf, loweredOf, fourRaised, roundOf, sameTo, roundsOf};
 ghost use Rattle.starts.specs.Latency.{latencyOf};
 
 // Each start plus 30,000, as the table's weights are.
 fn lifted(old: &[u16; 24]) -> [u16; 24]
-    requires { ⌜ Small (now old) 23000 ⌝ }
+    requires { ⌜ Small (now old) 23016 ⌝ }
     ensures { λ r. ⌜ r ≡ liftedOf (now (old .entry)) ⌝ }
 {
     let mut new = [0u16; 24];
@@ -41,7 +41,7 @@ fn lowered(new: &[u16; 24]) -> [u16; 24]
 fn sum(table: &[[u16; 24]; 24], old: &[u16; 24], i: usize, j: usize) -> u16
     requires { ⌜ (i < 24) × (j < 24) ⌝ }
     requires { ⌜ SmallRows (now table) ⌝ }
-    requires { ⌜ Small (now old) 23000 ⌝ }
+    requires { ⌜ Small (now old) 23016 ⌝ }
     ensures { λ r. ⌜ r ≡ sumAt (now (table .entry)) (now (old .entry)) j i ⌝ }
 {
     old[i] + table[i][j]
@@ -51,7 +51,7 @@ fn sum(table: &[[u16; 24]; 24], old: &[u16; 24], i: usize, j: usize) -> u16
 fn raised(new: [u16; 24], table: &[[u16; 24]; 24], old: &[u16; 24], i: usize) -> [u16; 24]
     requires { ⌜ i ≤ 20 ⌝ }
     requires { ⌜ SmallRows (now table) ⌝ }
-    requires { ⌜ Small (now old) 23000 ⌝ }
+    requires { ⌜ Small (now old) 23016 ⌝ }
     ensures { λ r. ⌜ r ≡ fourRaised (now (table .entry)) (now (old .entry)) i new ⌝ }
 {
     let mut more = [0u16; 24];
@@ -69,7 +69,7 @@ fn raised(new: [u16; 24], table: &[[u16; 24]; 24], old: &[u16; 24], i: usize) ->
 fn round(table: &[[u16; 24]; 24], old: [u16; 24], fours: usize) -> [u16; 24]
     requires { ⌜ fours ≤ 6 ⌝ }
     requires { ⌜ SmallRows (now table) ⌝ }
-    requires { ⌜ Small old 23000 ⌝ }
+    requires { ⌜ Small old 23016 ⌝ }
     ensures { λ r. ⌜ r ≡ roundOf (now (table .entry)) old (4 * fours) ⌝ }
 {
     let mut new = lifted(&old);
@@ -95,20 +95,21 @@ fn same(a: &[u16; 24], b: &[u16; 24]) -> bool
 }
 
 // k rounds more: starts and latency are raised in place, together, and whether the last round changed nothing is returned. A round that changes
-// nothing ends them, since no later one would change anything.
+// nothing ends them, since no later one would change anything; so does a latency at or above the bound. No start passes the bound before.
 pub fn rounds(
     table: &[[u16; 24]; 24],
     ticks: &[u8; 24],
     starts: &mut [u16; 24],
     latency: &mut u16,
+    bound: u16,
     fours: usize,
     k: usize,
 ) -> bool
-    requires { ⌜ (fours ≤ 6) × (k ≤ 24) ⌝ }
+    requires { ⌜ fours ≤ 6 ⌝ }
     requires { ⌜ SmallRows (now table) × Small (now ticks) 16 ⌝ }
-    requires { ⌜ (length (now starts) ≡ 24) × Small (now starts) (1000 * (24 - k)) ⌝ }
-    requires { ⌜ now latency ≡ latencyOf (now ticks) (now starts) 24 ⌝ }
-    ensures { λ r. ⌜ record { starts = now (starts .exit); latency = now (latency .exit); found = r } ≡ roundsOf (now (table .entry)) (now (ticks .entry)) fours (now (starts .entry)) (now (latency .entry)) k ⌝ }
+    requires { ⌜ length (now starts) ≡ 24 ⌝ }
+    requires { ⌜ (now latency ≡ latencyOf (now ticks) (now starts) 24) × ((now latency < bound) × (bound ≤ 23017)) ⌝ }
+    ensures { λ r. ⌜ record { starts = now (starts .exit); latency = now (latency .exit); found = r } ≡ roundsOf (now (table .entry)) (now (ticks .entry)) fours bound (now (starts .entry)) (now (latency .entry)) k ⌝ }
 {
     if k == 0 {
         return false;
@@ -118,7 +119,11 @@ pub fn rounds(
     if same(&old, &new) {
         return true;
     }
+    let risen = raised_latency(*latency, ticks, &new);
     *starts = new;
-    *latency = raised_latency(*latency, ticks, &new);
-    rounds(table, ticks, starts, latency, fours, k - 1)
+    *latency = risen;
+    if bound <= risen {
+        return false;
+    }
+    rounds(table, ticks, starts, latency, bound, fours, k - 1)
 }

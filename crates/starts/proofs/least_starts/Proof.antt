@@ -1,19 +1,14 @@
--- `least_starts` meets its contract: the local table is filled from the delays and then from the turns, and the rounds go over it, from starts
--- that are all 0.
+-- `least_starts` meets its contract: the local table is filled from the delays and then from the turns, and the rounds go over it.
 use borrow.Author.Needs.{needs}
 use native.Mathlib.Omega.{arith}
-use Prim.Native.Nat.{ℕ}
-use lib.ListN.{length-replicate}
-use Rattle.starts.specs.Latency.{longestOf}
 use Rattle.starts.specs.Table.{emptyTable}
-use Rattle.starts.proofs.FillLaws.{zeros-small}
 use Rattle.starts.proofs.LeastLaws.{table-small, least-is}
 use Rattle.starts.proofs.Law.{fours-high}
 use Rattle.starts.proofs.least_starts.Statement.{statement}
 use Rattle.starts.proofs.least_starts.Tie as tie
 
 pub least-starts-spec : {M : Type 1} → statement M
-unfolding emptyTable longestOf
+unfolding emptyTable
 least-starts-spec =
     tie.close
     (tie.spec
@@ -24,13 +19,12 @@ least-starts-spec =
     let turns = c .before .before .before in
     let delays = turns .before .before in
     let pre = delays .before .before .pre in (
-      (omega (arith, fours-high _ (pre .0 .0)), omega (arith, pre .0 .0)),
+      omega (arith, fours-high _ (pre .0 .0)),
       (
-        (table-small _ _ _ _ _ _ _ _ _ (delays .fill-delays .ensures) (turns .fill-turns .ensures) (pre .1 .0), pre .1 .1 .1 .0),
-        ((length-replicate {A = ℕ} 24 0, zeros-small _ 24), pre .1 .1 .1 .1),
+        (table-small _ _ _ _ _ _ _ _ _ _ (delays .store-delays .ensures) (turns .put-turns .ensures) (pre .1 .0) (pre .1 .1 .0), pre .1 .1 .1 .0 .0),
+        (pre .1 .1 .1 .0 .1, pre .1 .1 .1 .1),
       ),
     ))
     (λ c.
     let turns = c .before .before .before .before in
-    let delays = turns .before .before in
-    least-is _ _ _ _ _ _ _ _ _ (delays .fill-delays .ensures) (turns .fill-turns .ensures) _ _ _ (delays .before .before .pre .1 .1 .1 .1) _ (c .rounds .ensures)))
+    least-is _ _ _ _ _ _ _ _ _ _ (turns .before .before .store-delays .ensures) (turns .put-turns .ensures) _ _ _ _ _ _ (c .rounds .ensures)))

@@ -10,7 +10,7 @@ meets-clash-spec =
     tie.close
     (tie.spec
     (λ c κs. within-tabled _ (c .pre .0))
-    (λ c κs. let b = c .before .before in clashes-fit _ (b .before .pre .0) (b .before .pre .1) _ (b .list-clashes .ensures))
+    (λ c κs. let b = c .before .before in clashes-fit _ (b .before .pre .0) (b .before .pre .1) _ (b .list-clashes .ensures) _)
     (λ c. search needs)
     (λ c. search needs)
     (λ c.

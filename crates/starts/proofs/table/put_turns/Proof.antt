@@ -1,21 +1,21 @@
--- `fill_delays` meets its contract. The loop's invariant: the first k delays are in the table.
+-- `put_turns` meets its contract. The loop's invariant: the first k turns are in the table.
 use borrow.Author.Needs.{needs}
 use native.Mathlib.Omega.{arith}
 use mathlib.Core.Path.{_≡_, refl}
 use Prim.Native.Nat.{_≤_, _-_}
-use Rattle.starts.specs.Table.{withDelays}
-use Rattle.starts.proofs.TableLaws.{delays-none, delays-more}
-use Rattle.starts.proofs.table.fill_delays.Statement.{statement}
-use Rattle.starts.proofs.table.fill_delays.Tie as tie
+use Rattle.starts.specs.Table.{withPut}
+use Rattle.starts.proofs.TableLaws.{put-none, put-more}
+use Rattle.starts.proofs.table.put_turns.Statement.{statement}
+use Rattle.starts.proofs.table.put_turns.Tie as tie
 
 abbrev Inv-loop : tie.InvT-loop
-Inv-loop table₀ m from to code k₀ table k = (k ≤ m) × (table ≡ withDelays from to code table₀ k)
+Inv-loop table₀ depth from to code k₀ table k = (k ≤ depth) × (table ≡ withPut from to code table₀ k)
 
 abbrev μ-loop : tie.MeasureT-loop
-μ-loop table₀ m from to code k₀ table k = m - k
+μ-loop table₀ depth from to code k₀ table k = depth - k
 
 loop-holds : tie.Need-loop-holds Inv-loop μ-loop
-loop-holds c = (search needs, delays-none _ _ _ _)
+loop-holds c = (search needs, put-none _ _ _ _)
 
 element-copy-out-wide : tie.Need-element-copy-out-wide Inv-loop μ-loop
 element-copy-out-wide c = search needs
@@ -50,14 +50,14 @@ loop-less c = search needs
 loop-again : tie.Need-loop-again Inv-loop μ-loop
 loop-again c = (
   search needs,
-  delays-more _ _ _ _ _ _ _ _ _ _ (c .before .before .before .before .before .before .before .before .loop .inv .1) (c .before .before .before .before .wide .ensures .0) (c .before .before .wide2 .ensures .0) refl (c .put .ensures),
+  put-more _ _ _ _ _ _ _ _ _ _ (c .before .before .before .before .wide .ensures .0) (c .before .before .wide2 .ensures .0) refl (c .before .before .before .before .before .before .before .before .loop .inv .1) (c .put .ensures),
 )
 
 returns : tie.Need-returns Inv-loop μ-loop
-returns c = let h : c .before .loop .k ≡ c .before .before .args .m = omega arith in rw (← h) (c .before .loop .inv .1)
+returns c = let h : c .before .loop .k ≡ c .before .before .args .depth = omega arith in rw (← h) (c .before .loop .inv .1)
 
-pub fill-delays-spec : {M : Type 1} → statement M
-fill-delays-spec =
+pub put-turns-spec : {M : Type 1} → statement M
+put-turns-spec =
     tie.close
     (tie.spec
     Inv-loop

@@ -1,0 +1,48 @@
+-- The listed clashes by pairs of jobs: the distances of a pair as bits of one number, so that starts are held to all of them at once.
+-- A pair is the number i * 32 + j, which is a code without its last 5 bits.
+use Prim.Native.Nat.{ℕ, _+_, _-_, _/_, _%_, _^_, _≤_, _<_}
+use mathlib.Core.Path.{_≡_}
+use mathlib.Core.List.{List}
+use lib.ListN.{length, getD}
+use lib.Dec.{ltb}
+use Rattle.model.specs.Common.{if_then_else_}
+use Rattle.model.specs.Limits.{mostJobs}
+use Rattle.clashes.specs.First.{Unmet}
+
+-- t_j + 16 − t_i, of later = t_j + 16 and earlier = t_i, where that is at most 31, and else 0: the bit that a clash which is met has
+unfoldable pub bitOf : ℕ → ℕ → ℕ
+bitOf later earlier = if ltb 31 (later - earlier) then 0 else later - earlier
+
+-- d + 15 is at most 30 for each of the first n codes
+pub record Near (codes : List ℕ) (n : ℕ) : Type 0 where
+  pub each : (c : ℕ) → c < n → getD codes c 0 % 32 < 31
+
+-- the arrays have a place for each of the 276 pairs that 24 jobs have
+pub record Room (pair held end : List ℕ) : Type 0 where
+  pub of-pair : length pair ≡ 276
+  pub of-held : length held ≡ 276
+  pub of-end : length end ≡ 276
+
+-- pair q is the pair of code c, and its bits have bit d + 16
+pub record In (codes pair held : List ℕ) (c q : ℕ) : Type 0 where
+  pub same : getD codes c 0 / 32 ≡ getD pair q 0
+  pub near : getD codes c 0 % 32 < 31
+  pub has : getD held q 0 / 2 ^ (getD codes c 0 % 32 + 1) % 2 ≡ 1
+
+-- there are at most 276 pairs, and each is of two jobs
+pub record OfJobs (pair : List ℕ) (pairs : ℕ) : Type 0 where
+  pub few : pairs ≤ 276
+  pub first : (q : ℕ) → q < pairs → getD pair q 0 / 32 < mostJobs
+  pub second : (q : ℕ) → q < pairs → getD pair q 0 % 32 < mostJobs
+
+-- the pairs of the first n codes: each code before the end of pair q is in a pair up to q, and where there is room for more pairs, each is before one's end
+pub record Paired (codes pair held end : List ℕ) (pairs n : ℕ) : Type 0 where
+  pub of-jobs : OfJobs pair pairs
+  pub within : (q : ℕ) → q < pairs → getD end q 0 ≤ n
+  pub each : (q c : ℕ) → q < pairs → c < getD end q 0 → (r : ℕ) × ((r ≤ q) × In codes pair held c r)
+  pub all : pairs < 276 → (c : ℕ) → c < n → (q : ℕ) × ((q < pairs) × (c < getD end q 0))
+
+-- whatever codes these are the pairs of, the starts meet none of the first r
+abbrev pub NoneMet : List ℕ → List ℕ → List ℕ → ℕ → List ℕ → ℕ → Type 0
+NoneMet pair held end pairs ts r =
+    (codes : List ℕ) (n : ℕ) → Paired codes pair held end pairs n → Unmet codes ts r × (r ≤ n)
