@@ -34,6 +34,16 @@ def runs(rng, batch):
         yield "refused calls between", [first] + calls + ["D"]
 
 
+def deep_paths(rng):
+    """Searches whose paths outgrow the rows that a run keeps of them, gone on with by few nodes, where a run prepares less, and by many."""
+    for name in ("css21", "twelve", "full", "clashes-400", "clashes-1024", "scope-limit"):
+        with open("../bench/batches/%s.batch" % name, "rb") as file:
+            first = opening(file.read())
+        for _ in range(4):
+            budgets = [rng.choice([1, 2, 7, 8, 9, 33, 100, 1000, rng.randint(1, 3000)]) for _ in range(12)]
+            yield "deep paths", [first] + [call for b in budgets for call in ("R %d 24" % b, "D")]
+
+
 def lengths(batch):
     """Starts lists and buffers of every telling length, on sound and unsound records."""
     for state in states(batch):
@@ -182,4 +192,4 @@ def all_lists(rng, known):
         made += soundness(batch)
     for batch in known:
         made += foreign(rng, batch)
-    return made + list(full_path()) + list(clash_limit(rng))
+    return made + list(full_path()) + list(clash_limit(rng)) + list(deep_paths(rng))

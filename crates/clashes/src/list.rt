@@ -7,7 +7,7 @@ use model::Job;
 use model::wide;
 ghost use mathlib.Core.Path.{_≡_};
 ghost use Prim.Native.Nat.{_*_, _≤_, _<_};
-ghost use Rattle.clashes.specs.List.{listing, put, pairCodes, rowCodes, listOf, Grown, Tabled};
+ghost use Rattle.clashes.specs.List.{listing, put, pairCodes, listOf, Grown, Tabled};
 
 // Counts a code, and stores it where there is room.
 fn put_code(codes: &mut [u16; 1024], count: usize, code: usize) -> usize
@@ -42,24 +42,6 @@ fn add_pair(codes: &mut [u16; 1024], count: usize, first: Job, second: Job, base
     at
 }
 
-// Adds the clashes of job i with the jobs after it.
-fn add_row(codes: &mut [u16; 1024], count: usize, batch: Batch, i: usize) -> usize
-    requires { ⌜ Tabled batch ⌝ }
-    requires { ⌜ (i < batch .n) × (count ≤ 744 * i) ⌝ }
-    ensures { λ r. ⌜ Grown (listing count (now (codes .entry))) (listing r (now (codes .exit))) (rowCodes batch i) 744 ⌝ }
-{
-    let n = wide(batch.n);
-    let first = batch.jobs[i];
-    let mut at = count;
-    let mut j = i + 1;
-    while j < n {
-        let second = batch.jobs[j];
-        at = add_pair(codes, at, first, second, i * 1024 + j * 32);
-        j = j + 1;
-    }
-    at
-}
-
 // The clashes of a batch. All are counted, and the first 1,024 stored.
 pub fn list_clashes(batch: Batch) -> Clashes
     requires { ⌜ Tabled batch ⌝ }
@@ -70,7 +52,13 @@ pub fn list_clashes(batch: Batch) -> Clashes
     let mut count: usize = 0;
     let mut i: usize = 0;
     while i < n {
-        count = add_row(&mut codes, count, batch, i);
+        let first = batch.jobs[i];
+        let mut j = i + 1;
+        while j < n {
+            let second = batch.jobs[j];
+            count = add_pair(&mut codes, count, first, second, i * 1024 + j * 32);
+            j = j + 1;
+        }
         i = i + 1;
     }
     Clashes {

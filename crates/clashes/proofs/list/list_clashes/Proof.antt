@@ -1,51 +1,58 @@
--- `list::list_clashes` meets its contract. The invariant: what is left of the rows completes the list.
-use Prim.Native.Nat.{_-_}
+-- `list::list_clashes` meets its contract. The invariants: what is left of the rows completes the list, and what is left of the jobs after job i
+-- completes its row.
+use Prim.Native.Nat.{suc, _-_}
 use mathlib.Core.Path.{_≡_}
-use lib.ListN.{replicate}
+use lib.ListN.{length, length-map, replicate}
 use borrow.Author.Needs.{needs}
+use Rattle.model.specs.Clash.{clashesOf}
 use Rattle.clashes.specs.List.{listing}
 use Rattle.clashes.proofs.GrowLaws.{Growing, grow-none}
-use Rattle.clashes.proofs.RowLaws.{rowOf, list-more, list-end}
+use Rattle.clashes.proofs.RowLaws.{rowOf, job-short, row-more, row-end, list-more, list-end}
 use Rattle.clashes.proofs.list.list_clashes.Statement.{statement}
 use Rattle.clashes.proofs.list.list_clashes.Tie as tie
 
+abbrev Inv-loop2 : tie.InvT-loop2
+Inv-loop2 batch n codes₀ count₀ i first j₀ codes count j =
+    (n ≡ batch .n) × Growing (clashesOf batch i) 31 (suc i) (batch .n) (listing count₀ codes₀) (listing count codes) j
+
+abbrev μ-loop2 : tie.MeasureT-loop2
+μ-loop2 batch n codes₀ count₀ i first j₀ codes count j = n - j
+
 abbrev Inv-loop : tie.InvT-loop
-Inv-loop batch n codes₀ count₀ i₀ codes count i = (n ≡ batch .n) × Growing (rowOf batch) 744 0 (batch .n) (listing 0 (replicate 1024 0)) (listing count codes) i
+Inv-loop batch n codes₀ count₀ i₀ codes count i =
+    (n ≡ batch .n) × ((length (batch .jobs) ≡ 24) × Growing (rowOf batch) 744 0 (batch .n) (listing 0 (replicate 1024 0)) (listing count codes) i)
 
 abbrev μ-loop : tie.MeasureT-loop
 μ-loop batch n codes₀ count₀ i₀ codes count i = n - i
 
-wide-requires : tie.Need-wide-requires Inv-loop μ-loop
-wide-requires c κs = search needs
-
-loop-holds : tie.Need-loop-holds Inv-loop μ-loop
-loop-holds c = (search needs, grow-none _ _ _ _ _ _ (search needs) (search needs))
-
-add-row-requires : tie.Need-add-row-requires Inv-loop μ-loop
-add-row-requires c κs = (c .before .before .before .before .pre, (search needs, search needs))
-
-add-i : tie.Need-add-i Inv-loop μ-loop
-add-i c = search needs
-
-loop-less : tie.Need-loop-less Inv-loop μ-loop
-loop-less c = search needs
-
-loop-again : tie.Need-loop-again Inv-loop μ-loop
-loop-again c = (search needs, list-more _ _ _ _ _ (c .before .before .before .loop .inv .1) (search needs) (c .add-row .ensures))
-
-returns : tie.Need-returns Inv-loop μ-loop
-returns c = list-end _ _ _ (c .before .loop .inv .1) (search needs)
-
 pub list-clashes-spec : {M : Type 1} → statement M
 list-clashes-spec =
     tie.close
-    (tie.spec
-    Inv-loop
-    μ-loop
-    wide-requires
-    loop-holds
-    add-row-requires
-    add-i
-    loop-less
-    loop-again
-    returns)
+    (tie.spec Inv-loop2 μ-loop2 Inv-loop μ-loop
+    (λ c κs. search needs)
+    (λ c. (search needs, (simp length-map at (c .before .good .0 .1 .1 .1 .1 .0 .1 .0 .1), grow-none _ _ _ _ _ _ (search needs) (search needs))))
+    (λ c. search needs)
+    (λ c. search needs)
+    (λ c. search needs)
+    (λ c. (search needs, grow-none _ _ _ _ _ _ (search needs) (search needs)))
+    (λ c. search needs)
+    (λ c. search needs)
+    (λ c. search needs)
+    (λ c. search needs)
+    (λ c. search needs)
+    (λ c κs.
+    let short = job-short _ (c .before .before .before .before .before .before .before .before .pre) (c .before .before .before .before .before .before .loop .inv .1 .0) in
+    ((short _ (search needs), short _ (search needs)), (search needs, search needs)))
+    (λ c. search needs)
+    (λ c. search needs)
+    -- one job more
+    (λ c.
+    let i = c .before .before .before .before .before .before .before .loop .inv .1 in
+    (search needs, row-more _ (c .before .before .before .before .before .before .before .before .before .pre) (i .0) _ _ _ _ _ (search needs) (c .before .before .before .before .loop2 .inv .1) (search needs) (c .add-pair .ensures)))
+    (λ c. search needs)
+    (λ c. search needs)
+    -- one row more
+    (λ c.
+    let i = c .before .before .before .before .loop .inv .1 in
+    (search needs, (i .0, list-more _ _ _ _ _ (i .1) (search needs) (row-end _ (c .before .before .before .before .before .before .pre) _ _ _ _ (c .before .loop2 .inv .1) (search needs)))))
+    (λ c. list-end _ _ _ (c .before .loop .inv .1 .1) (search needs)))
