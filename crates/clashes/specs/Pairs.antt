@@ -9,7 +9,8 @@ use Rattle.model.specs.Common.{if_then_else_}
 use Rattle.model.specs.Limits.{mostJobs}
 use Rattle.clashes.specs.First.{Unmet}
 
--- t_j + 16 − t_i, of later = t_j + 16 and earlier = t_i, where that is at most 31, and else 0: the bit that a clash which is met has
+-- t_j + 16 − t_i, of later = t_j + 16 and earlier = t_i, where that is at most 31, and else 0, the bit that no distance has: the bit of a
+-- clash that is met
 unfoldable pub bitOf : ℕ → ℕ → ℕ
 bitOf later earlier = if ltb 31 (later - earlier) then 0 else later - earlier
 
@@ -35,7 +36,8 @@ pub record OfJobs (pair : List ℕ) (pairs : ℕ) : Type 0 where
   pub first : (q : ℕ) → q < pairs → getD pair q 0 / 32 < mostJobs
   pub second : (q : ℕ) → q < pairs → getD pair q 0 % 32 < mostJobs
 
--- the pairs of the first n codes: each code before the end of pair q is in a pair up to q, and where there is room for more pairs, each is before one's end
+-- the pairs of the first n codes: each code before the end of pair q is in a pair up to q, and where there is room for more pairs, each is before one's
+-- end. Bits too many are not excluded, nor what is left out where the arrays are full: they cost time, and never an answer
 pub record Paired (codes pair held end : List ℕ) (pairs n : ℕ) : Type 0 where
   pub of-jobs : OfJobs pair pairs
   pub within : (q : ℕ) → q < pairs → getD end q 0 ≤ n

@@ -1,5 +1,5 @@
-// The clash list of a batch: by i, then j, then d, all rising, each once. One function for each level:
-// the rows of job i, the pairs of jobs i and j, the distances of a pair.
+// The clash list of a batch: by i, then j, then d, all rising, each once. The loops over i and j stand in one function, since handing the batch on
+// would copy it, and the distances of a pair in one of their own.
 use crate::Clashes;
 use crate::tables::tables_meet;
 use model::Batch;

@@ -5,7 +5,7 @@ ghost use Prim.Native.Nat.{_≤_};
 ghost use Rattle.clashes.specs.First.{Known};
 ghost use Rattle.clashes.specs.Pairs.{bitOf, Near, Room, OfJobs, Paired, NoneMet};
 
-// later - earlier where that is 0 to 31, and else 0.
+// later - earlier where that is 0 to 31, and else 0, a bit that no pair has.
 fn bit_of(later: usize, earlier: usize) -> usize
     ensures { λ r. ⌜ r ≡ bitOf later earlier ⌝ }
 {
@@ -20,7 +20,7 @@ fn bit_of(later: usize, earlier: usize) -> usize
 }
 
 // The pairs of the first count codes, each with the bits of its distances and the number of the codes up to its last, and how many there are.
-// Codes past 276 pairs, which 24 jobs do not have, are left out.
+// Codes past 276 pairs, which 24 jobs do not have, are left out; no answer rests on that.
 pub fn find_pairs(
     codes: &[u16; 1024],
     count: usize,

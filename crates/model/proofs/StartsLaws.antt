@@ -336,7 +336,7 @@ pub first-zero : (n j : ℕ) → getD (firstStarts n) j 0 ≡ 0
 unfolding firstStarts
 first-zero n j = blanks-at n j 0
 
-first-length : (n : ℕ) → length (firstStarts n) ≡ n
+pub first-length : (n : ℕ) → length (firstStarts n) ≡ n
 unfolding firstStarts
 first-length n = length-replicate n 0
 

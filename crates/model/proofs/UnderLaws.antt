@@ -90,7 +90,7 @@ round-more qs base k = ap (λ (l : ℕ). map (raised qs (rounds qs base k)) (cou
 
 module _ (n : ℕ) (qs : List Delay) (inside : Inside n qs) where
   -- starts that a round does not change keep every inequality
-  pub unchanged-keeps : (old : List ℕ) → length old ≡ n → rounds qs old 1 ≡ old → Solution qs old
+  unchanged-keeps : (old : List ℕ) → length old ≡ n → rounds qs old 1 ≡ old → Solution qs old
   unfolding Solution Inside Keeps start after reach rounds
   unchanged-keeps old len e q m =
       le-plus (q .weight) (getD old (q .from) 0) (getD old (q .to) 0)
@@ -114,7 +114,7 @@ module _ (n : ℕ) (qs : List Delay) (inside : Inside n qs) where
 
   module _ (base : List ℕ) (len : length base ≡ n) (u : Under qs base) where
     -- where there are least starts, round n and those after it change nothing
-    pub base-settles : (ts : List ℕ) → leastStarts n qs ≡ some ts → (k : ℕ) → n ≤ suc k → rounds qs base (suc k) ≡ rounds qs base k
+    base-settles : (ts : List ℕ) → leastStarts n qs ≡ some ts → (k : ℕ) → n ≤ suc k → rounds qs base (suc k) ≡ rounds qs base k
     unfolding Inside Solution after
     base-settles ts e k h =
         ext-getD 0 (rounds qs base (suc k)) (rounds qs base k) (rounds-length qs base (suc k) ∙ sym (rounds-length qs base k))
@@ -134,7 +134,7 @@ module _ (n : ℕ) (qs : List Delay) (inside : Inside n qs) where
 
 -- ---- stopping at best
 
-pub prunes-more : (best : Best) (l m : ℕ) → l ≤ m → prunes best l ≡ true → prunes best m ≡ true
+prunes-more : (best : Best) (l m : ℕ) → l ≤ m → prunes best l ≡ true → prunes best m ≡ true
 unfolding prunes
 prunes-more Nothing l m h e = e
 prunes-more (Latency k) l m h e = le-leb k m (omega (arith, leb-true k l e))

@@ -1,12 +1,12 @@
 -- The starts that a node reaches: the least ones, or the node goes back.
-use Prim.Native.Nat.{ℕ, suc, _+_, _/_, _≤_, _<_}
+use Prim.Native.Nat.{ℕ, _+_, _/_, _≤_, _<_}
 use mathlib.Core.Path.{_≡_, refl, ap, sym, subst, _∙_}
 use mathlib.Core.Logic.{_⊎_, inl, inr}
-use mathlib.Core.Bool.{Bool, true, false}
-use mathlib.Core.List.{List, List·Memᴰ}
-use mathlib.Core.Option.{none, some}
+use mathlib.Core.Bool.{true, false}
+use mathlib.Core.List.{List}
+use mathlib.Core.Option.{none}
 use native.Mathlib.Omega.{arith}
-use lib.ListN.{length, getD, replicate}
+use lib.ListN.{length, replicate}
 use borrow.Author.Tests.{le-leb, lt-leb}
 use Rattle.model.specs.declared.Batch.{Batch}
 use Rattle.model.specs.declared.Delay.{Delay}
@@ -14,19 +14,17 @@ use Rattle.model.specs.declared.Turn.{Turn}
 use Rattle.model.specs.declared.Best.{Best}
 use Rattle.model.specs.declared.Best.the-variants.{Nothing, Latency}
 use Rattle.model.specs.Common.{pad}
-use Rattle.model.specs.Batch.{delaysOf}
 use Rattle.model.specs.Plan.{latency}
 use Rattle.model.specs.Clash.{clashes}
 use Rattle.model.specs.Starts.{rounds, leastStarts}
 use Rattle.model.specs.Search.{inequalities, startsAt, back, prunes, visit, next}
 use Rattle.model.proofs.SeqLaws.{pad-length}
 use Rattle.model.proofs.StartsLaws.{Inside, rounds-length}
-use Rattle.model.proofs.NodeLaws.{Fits}
 use Rattle.model.proofs.GoodLaws.{good-named}
 use Rattle.model.proofs.SoundLaws.{fits}
 use Rattle.model.proofs.UnderLaws.{Under, under-rounds, stopped-back, beyond-none}
 use Rattle.starts.specs.Rounds.{Reached, roundsOf}
-use Rattle.starts.specs.Delays.{delaysRead, heaviestOf, ticksRead}
+use Rattle.starts.specs.Delays.{delaysRead, ticksRead}
 use Rattle.starts.specs.Latency.{latencyOf}
 use Rattle.starts.specs.Least.{leastOf}
 use Rattle.starts.proofs.PlaceLaws.{Tabled}
@@ -43,7 +41,7 @@ use Rattle.search.proofs.PathLaws.{turns-length}
 use Rattle.search.proofs.RowsLaws.{Begins, begins}
 use Rattle.search.proofs.WorksLaws.{passes, good-turns, counts, bound-small, held, turn-stored, turns-held}
 
--- a latency below best's bound is not pruned, and with no best no latency passes the bound
+-- a latency below best's bound is not pruned
 below-kept : (best : Best) (l : ℕ) → l < boundOf best → prunes best l ≡ false
 unfolding boundOf prunes
 below-kept Nothing l h = refl

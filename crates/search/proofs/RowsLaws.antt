@@ -4,7 +4,6 @@ use mathlib.Core.Path.{_≡_, refl, ap, sym, subst, _∙_}
 use mathlib.Core.Bool.{Bool, true, false}
 use mathlib.Core.List.{List, [], _∷_, _++_, map, List·Memᴰ, List·Memᴰ·head, Memᴰ·append-right}
 use native.Mathlib.Omega.{arith}
-use native.Mathlib.Numerals.{sub-one, add-one}
 use native.Mathlib.Decide.{ℕ-discrete}
 use lib.Dec.{eqb}
 use lib.ListN.{length, getD, set, replicate, length-set, length-replicate, getD-replicate}
@@ -18,6 +17,7 @@ use Rattle.model.specs.Batch.{delaysOf}
 use Rattle.model.specs.Clash.{clashes}
 use Rattle.model.specs.Search.{turned, inequalities}
 use Rattle.model.proofs.SeqLaws.{pad-at, pad-length, map-snoc, listed-cong}
+use Rattle.model.proofs.StartsLaws.{first-length}
 use Rattle.model.proofs.UnderLaws.{Under, under-first, under-path, under-raised}
 use Rattle.starts.specs.Code.{coded, Fits}
 use Rattle.starts.specs.Rounds.{Small}
@@ -25,9 +25,9 @@ use Rattle.starts.specs.Latency.{latencyOf, longestOf}
 use Rattle.starts.proofs.CodeLaws.{plus-coded}
 use Rattle.starts.proofs.FillLaws.{set-all, zeros-small}
 use Rattle.starts.proofs.LatencyLaws.{latency-set}
-use Rattle.starts.proofs.MetLaws.{zeros, first-long}
+use Rattle.starts.proofs.MetLaws.{zeros}
 use Rattle.search.specs.Walk.{turnOf, turnsIn, Kin}
-use Rattle.search.specs.Rows.{SmallRing, raisedStart, raisedRow, begun, Base, Kept}
+use Rattle.search.specs.Rows.{raisedStart, raisedRow, begun, Base, Kept}
 use Rattle.search.proofs.BackLaws.{turns-more, turns-set}
 
 -- ---- the cases of the code
@@ -76,7 +76,7 @@ pad-set ss j v few h =
 module _ (b : Batch) (few : b .n ≤ 24) where
   -- starts that are all 0
   base-none : (qs : List Delay) → Base b qs (replicate 24 0)
-  base-none qs = record { jobs = _; long = first-long (b .n); padded = sym (zeros (b .n) few); under = under-first qs (b .n) }
+  base-none qs = record { jobs = _; long = first-length (b .n); padded = sym (zeros (b .n) few); under = under-first qs (b .n) }
 
   -- a child begins with its parent's starts, raised by the inequality that it has more
   module _ (ts : List Turn) (t : Turn) (f : Fits (b .n) (turned (clashes b) t)) where

@@ -1,7 +1,7 @@
 -- The cases of a node: what least starts, latency and the first met clash say together is the definitions' next place.
-use Prim.Native.Nat.{ℕ, _+_, _-_, _*_, _/_, _%_, _≤_, _<_}
-use mathlib.Core.Path.{_≡_, refl, ap, sym, subst, _∙_}
-use mathlib.Core.Bool.{Bool, true, false}
+use Prim.Native.Nat.{ℕ, _+_, _*_, _/_, _%_, _≤_, _<_}
+use mathlib.Core.Path.{_≡_, refl, ap, sym, _∙_}
+use mathlib.Core.Bool.{Bool, false}
 use mathlib.Core.List.{List, [], _∷_, _++_}
 use mathlib.Core.Option.{Option, none, some}
 use native.Mathlib.Omega.{arith}
@@ -9,14 +9,13 @@ use native.Mathlib.Numerals.{add-one}
 use lib.ListN.{length, getD, set}
 use lib.Seq.{getD-set-same, getD-set-other}
 use Rattle.model.specs.declared.Batch.{Batch}
-use Rattle.model.specs.declared.Delay.{Delay}
 use Rattle.model.specs.declared.Turn.{Turn}
 use Rattle.model.specs.declared.Best.{Best}
 use Rattle.model.specs.declared.Best.the-variants.{Latency}
 use Rattle.model.specs.Common.{if_then_else_, pad}
 use Rattle.model.specs.Plan.{latency}
 use Rattle.model.specs.Clash.{clashes}
-use Rattle.model.specs.Search.{Place, inequalities, startsAt, firstMet, back, prunes, becomeBest, branch, visit, next}
+use Rattle.model.specs.Search.{Place, inequalities, startsAt, firstMet, back, becomeBest, branch, visit, next}
 use Rattle.model.proofs.SeqLaws.{pad-at, pad-length}
 use Rattle.model.proofs.UnderLaws.{under-least}
 use Rattle.model.proofs.StartsLaws.{least-length}
@@ -36,7 +35,7 @@ use Rattle.starts.proofs.LatencyLaws.{latency-padded}
 use Rattle.starts.proofs.RoundLaws.{below-small}
 use Rattle.search.specs.declared.node.Walk.{Walk}
 use Rattle.search.specs.declared.node.Sizes.{Sizes}
-use Rattle.search.specs.Walk.{turnOf, turnsIn, Steps, incumbent, placeAt}
+use Rattle.search.specs.Walk.{turnOf, turnsIn, incumbent, placeAt}
 use Rattle.search.specs.Rows.{Base}
 use Rattle.search.specs.Kit.{Kit, Trail, Stands, Works, Least, Returned}
 use Rattle.search.proofs.BackLaws.{turns-more, turns-set, path-set}

@@ -84,9 +84,6 @@ set-all P (x ∷ l) (suc i) a d h p (suc k) = set-all P l i a d (λ (j : ℕ). h
 pub zeros-small : (b n : ℕ) → Small (replicate n 0) b
 zeros-small b n = record { each = λ k. omega (arith, blanks-at {A = ℕ} n k 0) }
 
-pub small-more : (l : List ℕ) (a b : ℕ) → a ≤ b → Small l a → Small l b
-small-more l a b h p = record { each = λ k. omega (arith, p .each k) }
-
 pub filled-small : (f : ℕ → ℕ) (size b : ℕ) → ((i : ℕ) → f i ≤ b) → (k : ℕ) → Small (filled f size k) b
 unfolding filled
 filled-small f size b h zero = zeros-small b size

@@ -2,18 +2,17 @@
 -- pair, stored without a comparison.
 use mathlib.Core.Path.{_≡_, refl, sym, _∙_, ap}
 use mathlib.Core.Logic.{_⊎_, inl, inr}
-use mathlib.Core.Bool.{Bool, true, false, _&&_}
+use mathlib.Core.Bool.{Bool}
 use mathlib.Core.List.{List, [], _∷_, _++_, append-assoc, append-nil}
-use Prim.Native.Nat.{ℕ, zero, suc, _≤_, _<_, max}
+use Prim.Native.Nat.{ℕ, zero, suc, _≤_, _<_}
 use native.Mathlib.Omega.{arith}
 use native.Mathlib.Decide.{ℕ-discrete}
-use lib.Dec.{eqb}
 use lib.ListN.{length, getD, take}
 use lib.Seq.{take-suc, take-length}
 use Rattle.model.specs.declared.Delay.{Delay}
 use Rattle.model.specs.Batch.{blankDelay}
 use Rattle.model.specs.Starts.{entry}
-use Rattle.starts.specs.Code.{coded, placeCode, Fits}
+use Rattle.starts.specs.Code.{coded, placeCode}
 use Rattle.starts.specs.Rounds.{filled}
 use Rattle.starts.specs.Table.{storeIn, withPut, withStored, emptyTable, Placed}
 use Rattle.starts.specs.Delays.{heaviestOf}

@@ -1,10 +1,10 @@
 -- What a caller wants to know: where the arrays hold a batch's delays and a path's turns, they meet what `least_starts` asks, its table is the
 -- definition's table, after every round its starts and their latency are the definition's, and its answer tells of the definition's least starts.
-use mathlib.Core.Path.{_≡_, refl, sym, _∙_, ap, subst}
+use mathlib.Core.Path.{_≡_, sym, _∙_, ap, subst}
 use mathlib.Core.Logic.{_⊎_, inl, inr}
 use mathlib.Core.Bool.{true, false}
 use mathlib.Core.Option.{Option, none, some}
-use mathlib.Core.List.{List, [], _∷_, map, List·Memᴰ}
+use mathlib.Core.List.{List, [], map}
 use Prim.Native.Nat.{ℕ, suc, _+_, _*_, _/_, _≤_, _<_, pred}
 use native.Mathlib.Omega.{arith}
 use lib.ListN.{length, getD, length-map, List·getD-map}
@@ -134,7 +134,7 @@ pub every-round : (b : Batch) (cs : List Clash) (ts : List Turn) (m depth : ℕ)
     → (base : List ℕ) → length base ≡ b .n → (bound first : ℕ) → bound ≤ 23017 → first ≡ latencyOf (ticksRead b) (pad 24 0 base) 24 → first < bound → (k : ℕ) (r : Reached)
     → r ≡ roundsOf (pathTable m froms tos codes tails heads gaps depth) (ticksRead b) ((b .n + 3) / 4) bound (pad 24 0 base) first k
     → (j : ℕ) × (r .starts ≡ pad 24 0 (rounds (inequalities cs b ts) base j)) × (r .latency ≡ latency b (rounds (inequalities cs b ts) base j))
-    × ((j ≡ k) ⊎ ((j ≤ k) × ((r .found ≡ true) ⊎ (bound ≤ r .latency))))
+    × ((j ≡ k) ⊎ ((j ≤ k) × (((r .found ≡ true) × (rounds (inequalities cs b ts) base (suc j) ≡ rounds (inequalities cs b ts) base j)) ⊎ (bound ≤ r .latency))))
 every-round b cs ts m depth froms tos codes tails heads gaps few most e d hd ht base len bound first limit l p k r g =
     subst Told (sym g) (c .j, c .starts, c .latency ∙ latency-padded b few _ (rounds-length qs base _ ∙ len), go (c .ending))
   where
@@ -145,12 +145,12 @@ every-round b cs ts m depth froms tos codes tails heads gaps few most e d hd ht 
     reached = roundsOf (pathTable m froms tos codes tails heads gaps depth) (ticksRead b) ((b .n + 3) / 4) bound (pad 24 0 base) first k
 
     Told : Reached → Type 0
-    Told r = (j : ℕ) × (r .starts ≡ pad 24 0 (rounds qs base j)) × (r .latency ≡ latency b (rounds qs base j)) × ((j ≡ k) ⊎ ((j ≤ k) × ((r .found ≡ true) ⊎ (bound ≤ r .latency))))
+    Told r = (j : ℕ) × (r .starts ≡ pad 24 0 (rounds qs base j)) × (r .latency ≡ latency b (rounds qs base j)) × ((j ≡ k) ⊎ ((j ≤ k) × (((r .found ≡ true) × (rounds qs base (suc j) ≡ rounds qs base j)) ⊎ (bound ≤ r .latency))))
 
     c : Came qs base (ticksRead b) bound k reached
     c = came (b .n) few _ qs (path-tabled b cs ts m depth froms tos codes tails heads gaps few most e d hd ht) base (ticksRead b) len bound limit first l p k
 
-    go : Ending qs base bound k (c .j) reached → (c .j ≡ k) ⊎ ((c .j ≤ k) × ((reached .found ≡ true) ⊎ (bound ≤ reached .latency)))
-    go (settled f _ _) = inr (c .most, inl f)
+    go : Ending qs base bound k (c .j) reached → (c .j ≡ k) ⊎ ((c .j ≤ k) × (((reached .found ≡ true) × (rounds qs base (suc (c .j)) ≡ rounds qs base (c .j))) ⊎ (bound ≤ reached .latency)))
+    go (settled f e _) = inr (c .most, inl (f, e))
     go (stopped _ f _) = inr (c .most, inr f)
     go (used _ f _) = inl f

@@ -1,18 +1,18 @@
 -- Whether the delays can be met, as the code finds it: it reads them, takes rounds over their table from starts that are all 0, and says whether one
 -- of them changed nothing. The bound is never reached before round n: a round raises a start by at most 1,000.
 use mathlib.Core.Path.{_≡_, sym, ap, _∙_}
-use mathlib.Core.Bool.{Bool, true, false}
-use mathlib.Core.Option.{none}
+use mathlib.Core.Bool.{false}
 use mathlib.Core.List.{List}
 use Prim.Native.Nat.{ℕ, _+_, _-_, _*_, _/_, _≤_}
 use native.Mathlib.Omega.{arith}
-use lib.ListN.{length, getD, replicate, length-replicate, replicate-append-replicate}
+use lib.ListN.{length, replicate, length-replicate, replicate-append-replicate}
 use Rattle.model.specs.declared.Batch.{Batch}
 use Rattle.model.specs.Common.{isSome, pad}
 use Rattle.model.specs.Batch.{delaysOf}
 use Rattle.model.specs.Starts.{rounds, firstStarts, leastStarts}
 use Rattle.model.specs.Open.{delaysMet}
 use Rattle.model.proofs.SeqLaws.{pad-at, blanks-at}
+use Rattle.model.proofs.StartsLaws.{first-length}
 use Rattle.model.proofs.UnderLaws.{under-first}
 use Rattle.starts.specs.declared.delays.Delays.{Delays}
 use Rattle.starts.specs.Rounds.{SmallRows, Reached, roundsOf}
@@ -35,10 +35,6 @@ unfolding pad firstStarts
 zeros n h =
     let e : n + (24 - length (replicate {A = ℕ} n 0)) ≡ 24 = omega (arith, length-replicate {A = ℕ} n 0) in
     replicate-append-replicate n (24 - length (replicate {A = ℕ} n 0)) 0 ∙ ap (λ (k : ℕ). replicate k 0) e
-
-pub first-long : (n : ℕ) → length (firstStarts n) ≡ n
-unfolding firstStarts
-first-long n = length-replicate {A = ℕ} n 0
 
 module _ (b : Batch) (s : DelaysSound b) (d : Delays) (e : d ≡ delaysRead b) (m : ℕ) (p : m ≡ b .m) where
   held : Holds (b .n) (delaysOf b) (d .from) (d .to) (d .code)
@@ -69,14 +65,14 @@ module _ (b : Batch) (s : DelaysSound b) (d : Delays) (e : d ≡ delaysRead b) (
     reached = roundsOf t none-yet ((b .n + 3) / 4) 23017 (pad 24 0 (firstStarts (b .n))) 0 (b .n)
 
     all-came : Came (delaysOf b) (firstStarts (b .n)) none-yet 23017 (b .n) reached
-    all-came = came (b .n) (s .most) t (delaysOf b) tabled (firstStarts (b .n)) none-yet (first-long (b .n)) 23017 (omega arith) 0 first (omega arith) (b .n)
+    all-came = came (b .n) (s .most) t (delaysOf b) tabled (firstStarts (b .n)) none-yet (first-length (b .n)) 23017 (omega arith) 0 first (omega arith) (b .n)
 
     -- round n still changes something
     unmet : (j : ℕ) → j ≡ b .n → Changed (delaysOf b) (firstStarts (b .n)) j → isSome (leastStarts (b .n) (delaysOf b)) ≡ false
     unfolding isSome
     unmet j g c =
         ap isSome
-        (changed-least (b .n) (s .most) t (delaysOf b) tabled (firstStarts (b .n)) none-yet (first-long (b .n)) 23017 (omega arith) 0 first (omega arith) (s .some) (under-first (delaysOf b) (b .n)) j g c)
+        (changed-least (b .n) (s .most) t (delaysOf b) tabled (firstStarts (b .n)) none-yet (first-length (b .n)) 23017 (omega arith) 0 first (omega arith) (s .some) (under-first (delaysOf b) (b .n)) j g c)
 
     -- after j rounds no start is above 1,000 * j
     latest : reached .latency ≤ 1000 * all-came .j
@@ -92,7 +88,7 @@ module _ (b : Batch) (s : DelaysSound b) (d : Delays) (e : d ≡ delaysRead b) (
         go : Ending (delaysOf b) (firstStarts (b .n)) 23017 (b .n) (all-came .j) reached → reached .found ≡ isSome (leastStarts (b .n) (delaysOf b))
         go (settled f _ _) =
             f ∙ sym (ap isSome
-            (found-least (b .n) (s .most) t (delaysOf b) tabled (firstStarts (b .n)) none-yet (first-long (b .n)) 23017 (omega arith) 0 first (omega arith) (s .some) (under-first (delaysOf b) (b .n)) f))
+            (found-least (b .n) (s .most) t (delaysOf b) tabled (firstStarts (b .n)) none-yet (first-length (b .n)) 23017 (omega arith) 0 first (omega arith) (s .some) (under-first (delaysOf b) (b .n)) f))
         go (stopped f p c) = f ∙ sym (unmet (all-came .j) (omega (arith, latest, all-came .most, s .most)) c)
         go (used f p c) = f ∙ sym (unmet (all-came .j) p c)
 

@@ -10,14 +10,13 @@ use native.Mathlib.Omega.{arith}
 use native.Mathlib.Decide.{ℕ-discrete, decLt}
 use lib.Dec.{eqb}
 use lib.ListN.{getD, length, List·getD-eq-default}
-use lib.Seq.{ext-getD}
 use borrow.Author.Tests.{eqb-true, eq-eqb, le-leb, lt-leb}
 use Rattle.model.specs.Common.{if_then_else_}
 use Rattle.model.proofs.BoolLaws.{both, and-false}
 use Rattle.starts.specs.Rounds.{Small, SmallRows, Lifted, sumAt, largest, startOf, roundOf, raisedTo, liftedOf, loweredOf, fourRaised, sameTo, Reached, roundsOf}
 use Rattle.starts.specs.Latency.{latencyOf, raisedBy}
 use Rattle.starts.proofs.LatencyLaws.{latency-mono, latency-at}
-use Rattle.starts.proofs.FillLaws.{filled-length, filled-at, filled-cong, filled-small, small-more}
+use Rattle.starts.proofs.FillLaws.{filled-length, filled-at, filled-cong, filled-small}
 
 -- ---- one start
 

@@ -19,8 +19,8 @@ mod table;
 pub mod turn;
 
 // Rounds from the starts that are lent, over the first m delays, each with the largest weight of its pair, and the first depth turns, whose
-// inequalities go from `tail` to `head` with the code `gap`. The starts and their latency are raised in place, at most n times; a latency at or above the bound ends the rounds. Whether a round changed nothing is returned:
-// the starts are then the least ones, if they were at or below them before.
+// inequalities go from `tail` to `head` with the code `gap`. The starts and their latency are raised in place, at most n times; a latency at or
+// above the bound ends the rounds. Whether a round changed nothing is returned: the starts are then the least ones, if they were at or below these.
 pub fn least_starts(
     n: usize,
     m: usize,

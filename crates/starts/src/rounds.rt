@@ -95,7 +95,7 @@ fn same(a: &[u16; 24], b: &[u16; 24]) -> bool
 }
 
 // k rounds more: starts and latency are raised in place, together, and whether the last round changed nothing is returned. A round that changes
-// nothing ends them, since no later one would change anything; so does a latency at or above the bound. No start passes the bound before.
+// nothing ends them, since no later one would change anything; so does a latency at or above the bound. While they go on, no start is above 23,016.
 pub fn rounds(
     table: &[[u16; 24]; 24],
     ticks: &[u8; 24],

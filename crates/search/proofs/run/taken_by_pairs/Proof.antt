@@ -1,5 +1,4 @@
 -- `search::run::taken_by_pairs` meets its contract.
-use borrow.Author.Needs.{needs}
 use native.Mathlib.Omega.{arith}
 use Rattle.search.proofs.run.taken_by_pairs.Statement.{statement}
 use Rattle.search.proofs.run.taken_by_pairs.Tie as tie
