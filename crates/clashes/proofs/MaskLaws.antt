@@ -3,7 +3,6 @@ use mathlib.Core.Path.{_≡_, sym, _∙_}
 use mathlib.Core.Logic.{_≢_}
 use mathlib.Core.Bool.{true, not}
 use Prim.Native.Nat.{ℕ, zero, suc, _/_, _%_, _^_, _<_, min, suc-le-suc}
-use native.Mathlib.Nat.{pow-suc, mul-comm, div-div-eq-div-mul}
 use native.Mathlib.Omega.{arith}
 use native.Mathlib.Decide.{ℕ-discrete}
 use lib.Dec.{eqb}
@@ -12,20 +11,8 @@ use borrow.Author.Tests.{eqb-true, eq-eqb, ne-eqb}
 use Rattle.model.specs.Batch.{bit}
 use Rattle.model.specs.Clash.{meet}
 use Rattle.model.proofs.BoolLaws.{decide}
+use Rattle.model.proofs.BitLaws.{bit-zero, zero-bit, bit-suc}
 use Rattle.model.proofs.ClashLaws.{meet-some, some-meet}
-
--- bit 0 is the remainder, and bit s + 1 is bit s of the half
-bit-zero : (m : ℕ) → bit m 0 ≡ true → m % 2 ≡ 1
-unfolding bit
-bit-zero m t = let e : m / 1 ≡ m = omega arith in rw e at (eqb-true (m / 1 % 2) 1 t)
-
-zero-bit : (m : ℕ) → m % 2 ≡ 1 → bit m 0 ≡ true
-unfolding bit
-zero-bit m h = let e : m / 1 ≡ m = omega arith in eq-eqb (m / 1 % 2) 1 (rw e h)
-
-bit-suc : (m s : ℕ) → bit m (suc s) ≡ bit (m / 2) s
-unfolding bit
-bit-suc m s = let e : m / 2 ^ suc s ≡ m / 2 / 2 ^ s = rw (div-div-eq-div-mul, pow-suc, mul-comm (2 ^ s) 2) in rw e
 
 -- a bit in both is a bit of the and
 both-and : (s m k : ℕ) → bit m s ≡ true → bit k s ≡ true → bitAnd m k ≢ 0

@@ -6,10 +6,10 @@ use model::Batch;
 use model::wide;
 use model::wide16;
 use starts::delays::read_delays;
-use starts::delays::ticks_of;
+use starts::stays::stays_of;
 ghost use mathlib.Core.Path.{_≡_};
 ghost use mathlib.Core.Bool.{true, _&&_};
-ghost use Prim.Native.Nat.{_+_, _≤_, _<_};
+ghost use Prim.Native.Nat.{_+_, _<_};
 ghost use lib.ListN.{getD};
 ghost use lib.Dec.{leb, eqb};
 ghost use Rattle.model.specs.Common.{all, isSome};
@@ -74,17 +74,17 @@ fn is_valid(batch: Batch, starts: &[u16; 24]) -> bool
     keeps_delays(batch, starts) && !meets_clash(batch, starts)
 }
 
-// The largest t_i + p_i.
+// The largest finish.
 fn latency_of(batch: Batch, starts: &[u16; 24]) -> usize
-    requires { ⌜ batch .n ≤ 24 ⌝ }
+    requires { ⌜ Within batch ⌝ }
     ensures { λ r. ⌜ r ≡ latency batch (now (starts .entry)) ⌝ }
 {
     let n = wide(batch.n);
-    let ticks = ticks_of(batch);
+    let stays = stays_of(batch);
     let mut latest: usize = 0;
     let mut i: usize = 0;
     while i < n {
-        let end = wide16(starts[i]) + wide(ticks[i]);
+        let end = wide16(starts[i]) + wide(stays[i]);
         if latest < end {
             latest = end;
         }

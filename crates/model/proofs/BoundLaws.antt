@@ -1,10 +1,10 @@
 -- No least start passes 23,000, and no latency 23,016: a round raises a start by at most 1,000, and after round n − 1 nothing changes.
-use Prim.Native.Nat.{ℕ, zero, suc, _+_, _*_, _≤_, _<_, max, pred}
-use mathlib.Core.Path.{_≡_, refl, ap}
+use Prim.Native.Nat.{ℕ, zero, suc, _+_, _*_, _≤_, _<_, pred}
+use mathlib.Core.Path.{_≡_, ap}
 use mathlib.Core.Bool.{true}
 use mathlib.Core.Logic.{_⊎_, inl, inr}
 use mathlib.Core.Option.{some}
-use mathlib.Core.List.{List, [], _∷_, map, foldr, List·Memᴰ, List·Memᴰ·head, List·Memᴰ·tail}
+use mathlib.Core.List.{List, List·Memᴰ}
 use native.Mathlib.Omega.{arith}
 use native.Mathlib.Decide.{decLt}
 use lib.IntN.{ℤ, pos, negsuc, subℕ, _+ℤ_, _-ℤ_}
@@ -14,14 +14,12 @@ use lib.ListN.{length, getD}
 use Rattle.model.specs.declared.Batch.{Batch}
 use Rattle.model.specs.declared.Delay.{Delay}
 use Rattle.model.specs.declared.Turn.{Turn}
-use Rattle.model.specs.Common.{count}
 use Rattle.model.specs.Limits.{mostStart, mostLatency}
-use Rattle.model.specs.Batch.{ticks}
-use Rattle.model.specs.Plan.{start, finish, latency}
+use Rattle.model.specs.Plan.{start, latency}
 use Rattle.model.specs.Clash.{Clash, clashes}
 use Rattle.model.specs.Starts.{plus, raised, rounds, firstStarts}
 use Rattle.model.specs.Search.{sideOf, turned, inequalities, startsAt, noClash}
-use Rattle.model.proofs.ListLaws.{count-some}
+use Rattle.model.proofs.FinishLaws.{stay-short, latency-most}
 use Rattle.model.proofs.ClashLaws.{Listed}
 use Rattle.model.proofs.DistanceLaws.{le-sub, sub-pos, sub-neg}
 use Rattle.model.proofs.StartsLaws.{after, after-suc, after-out, raised-why, Why, reach, first-zero, least-round}
@@ -57,11 +55,6 @@ near a b (pos zero) ha hb e t = (omega arith, omega arith)
 near a b (pos (suc k)) ha hb e t = (omega (arith, sub-pos a b (suc k) e), le-sub t (t + 1000) 1 (suc k) (omega arith))
 near a b (negsuc k) ha hb e t = (le-sub t (t + 1000) 1 (suc k) (omega arith), omega (arith, sub-neg a b k e))
 
-largest-bound : (f : ℕ → ℕ) (most : ℕ) (xs : List ℕ) → ((x : ℕ) → List·Memᴰ x xs → f x ≤ most) → foldr max 0 (map f xs) ≤ most
-largest-bound f most [] h = omega arith
-largest-bound f most (x ∷ xs) h =
-    omega (arith, h x (List·Memᴰ·head refl), largest-bound f most xs (λ y m. h y (List·Memᴰ·tail m)))
-
 module _ (b : Batch) (fits : Fits b) where
   side-slow : (c : Clash) → Listed b c → (s : ℕ) → Slow (sideOf c s)
   unfolding Slow sideOf
@@ -93,7 +86,4 @@ module _ (b : Batch) (fits : Fits b) where
       )
 
   pub latency-bound : (ts : List Turn) → Named b ts → (ss : List ℕ) → startsAt (clashes b) b ts ≡ some ss → latency b ss ≤ mostLatency
-  unfolding latency finish
-  latency-bound ts named ss e =
-      largest-bound (λ i. start ss i + ticks b i) mostLatency (count 0 (b .n))
-      (λ i m. omega (arith, starts-bound ts named ss e i, fits .short i (omega (arith, count-some 0 (b .n) i m .1))))
+  latency-bound ts named ss e = latency-most b ss mostLatency (λ i h. omega (arith, starts-bound ts named ss e i, stay-short b i, fits .short i h))

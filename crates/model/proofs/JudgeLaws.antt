@@ -1,11 +1,11 @@
 -- Judging a plan text: what is passed is exactly a right plan text of a file that opens, each refusal says what 02 says of it, and the plan text of a search
 -- opened here is right.
-use Prim.Native.Nat.{ℕ, _+_, _-_, _≤_, _<_, max}
+use Prim.Native.Nat.{ℕ, _+_, _-_, _<_}
 use mathlib.Core.Path.{_≡_, refl, ap, ap₂, sym, _∙_, subst}
-use mathlib.Core.Logic.{_↔_, ⊎-elim}
+use mathlib.Core.Logic.{_↔_}
 use mathlib.Core.Bool.{Bool, true, false, not, _&&_}
 use mathlib.Core.Option.{Option, none, some}
-use mathlib.Core.List.{List, [], _∷_, _++_, map, map-id, append-nil, foldr, List·Memᴰ, List·Memᴰ·not-nil, List·Memᴰ·cases-cons}
+use mathlib.Core.List.{List, [], _∷_, _++_, map, map-id, append-nil, List·Memᴰ}
 use native.Mathlib.Omega.{arith}
 use lib.ListN.{length, take, getD, length-map, List·getD-map}
 use lib.Seq.{ext-getD, getD-take}
@@ -18,7 +18,7 @@ use Rattle.model.specs.declared.Search.{Search}
 use Rattle.model.specs.Common.{count, all, joined, isSome, Outcome, refuse, accept, _>>=_, require}
 use Rattle.model.specs.Limits.{mostLatency, mostTotal}
 use Rattle.model.specs.Batch.{ticks, delaysOf}
-use Rattle.model.specs.Plan.{start, Keeps, KeepsDelays, Valid, finish, latency}
+use Rattle.model.specs.Plan.{start, Keeps, KeepsDelays, Valid, latency}
 use Rattle.model.specs.Clash.{Clash, clashes}
 use Rattle.model.specs.Starts.{same}
 use Rattle.model.specs.Search.{noClash, met, firstMet, freshSearch}
@@ -32,10 +32,11 @@ use Rattle.model.specs.Calls.{Call, after}
 use Rattle.model.specs.Demands.{PlanWith}
 use Rattle.model.specs.Judge.{RightText, Claim, jobsIn, startsIn, claimText, Claims, RightJobs, RightPlan, readClaim, as17, jobsRight, keeps, valid, planRight, judgeText, judge}
 use Rattle.model.proofs.BoolLaws.{apart, both, and, decide}
-use Rattle.model.proofs.ListLaws.{all-each, each-all, count-length, some-count, each-item, by-index}
+use Rattle.model.proofs.ListLaws.{all-each, each-all, count-length, each-item, by-index}
 use Rattle.model.proofs.SeqLaws.{getD-in, map-map, listed-at, listed-length, listed-cong}
 use Rattle.model.proofs.OutcomeLaws.{refused, accept-eq, bind-accepts, accepts-bind, require-accepts}
 use Rattle.model.proofs.StartsLaws.{same-eq, same-refl}
+use Rattle.model.proofs.FinishLaws.{finish-latency}
 use Rattle.model.proofs.ClashLaws.{Unmet, apart-unmet, unmet-apart}
 use Rattle.model.proofs.NodeLaws.{unmet-all, met-first}
 use Rattle.model.proofs.LimitLaws.{leZ-iff}
@@ -183,15 +184,6 @@ lines-plan b c h =
     let start = List·getD-map (λ (q : ℕ × ℕ). q .1) (c .lines) i (0, 0) in
     ap₂ (λ (x y : ℕ). (x, y)) job (sym start) ∙ sym (listed-at _ (0, 0) (b .n) i (omega arith)))
 
--- no start passes the latency
-largest-in : (f : ℕ → ℕ) (xs : List ℕ) (x : ℕ) → List·Memᴰ x xs → f x ≤ foldr max 0 (map f xs)
-largest-in f [] x m = absurd (List·Memᴰ·not-nil m)
-largest-in f (y ∷ xs) x m = ⊎-elim (λ e. omega (arith, ap f e)) (λ n. omega (arith, largest-in f xs x n)) (List·Memᴰ·cases-cons m)
-
-start-latency : (b : Batch) (ts : List ℕ) (i : ℕ) → i < b .n → start ts i ≤ latency b ts
-unfolding latency finish
-start-latency b ts i h = omega (arith, largest-in (λ i. start ts i + ticks b i) (count 0 (b .n)) i (some-count 0 (b .n) i (omega arith) (omega arith)))
-
 -- a plan's lines give its starts back
 starts-back : (b : Batch) (ts : List ℕ) → length ts ≡ b .n → map (λ q. q .1) (linesOf (b .n) ts) ≡ ts
 unfolding start
@@ -211,7 +203,7 @@ module _ (file : List ℕ) (b : Batch) (f : BatchFile file b) (text : List ℕ) 
           n-fits = omega (arith, f .within .jobs .1);
           latency-fits = r .latency-fits;
           total-fits = r .total-fits;
-          lines-fit = each-item _ _ (b .n) (λ i h. (omega (arith, f .within .jobs .1), omega (arith, start-latency b ts i h, r .latency-fits)));
+          lines-fit = each-item _ _ (b .n) (λ i h. (omega (arith, f .within .jobs .1), omega (arith, finish-latency b ts i h, r .latency-fits)));
         },
         (refl, map-map (λ q. q .0) (λ i. (i, start ts i)) (λ i. i) (λ i. refl) (count 0 (b .n)) ∙ map-id (count 0 (b .n))),
         (subst (Valid b) (sym back) (r .valid), ap (latency b) back),

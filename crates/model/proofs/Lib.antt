@@ -7,6 +7,8 @@ pub mod OutcomeLaws
 pub mod RefusalLaws
 pub mod PlusLaws
 pub mod DistanceLaws
+pub mod BitLaws
+pub mod FinishLaws
 pub mod SideLaws
 pub mod StartsLaws
 pub mod ClashLaws

@@ -1,13 +1,12 @@
 -- One node: what its least starts are, that no clash on its path is met, and that it keeps what a search claims of every valid plan:
 -- it is at or above best, or still open.
-use Prim.Native.Nat.{ℕ, zero, suc, _+_, _-_, _≤_, _<_, max}
+use Prim.Native.Nat.{ℕ, zero, suc, _+_, _-_, _≤_, _<_}
 use mathlib.Core.Path.{_≡_, refl, ap, sym, _∙_, subst}
 use mathlib.Core.Logic.{_⊎_, inl, inr, ⊎-elim}
 use mathlib.Core.Bool.{Bool, true, false}
 use mathlib.Core.Option.{Option, none, some}
-use mathlib.Core.List.{List, [], _∷_, _++_, map, foldr, List·Memᴰ, List·Memᴰ·not-nil, List·Memᴰ·cases-cons, List·Memᴰ·append-cases, Memᴰ·append-left, Memᴰ·append-right}
+use mathlib.Core.List.{List, [], _∷_, _++_, map, List·Memᴰ, List·Memᴰ·not-nil, List·Memᴰ·cases-cons, List·Memᴰ·append-cases, Memᴰ·append-left, Memᴰ·append-right}
 use native.Mathlib.Omega.{arith}
-use native.Mathlib.Nat.{le-refl}
 use lib.ListN.{length, getD}
 use lib.IntN.{ℤ, pos, _+ℤ_, _-ℤ_}
 use lib.Signed.{leZ}
@@ -17,16 +16,17 @@ use Rattle.model.specs.declared.Batch.{Batch}
 use Rattle.model.specs.declared.Turn.{Turn}
 use Rattle.model.specs.declared.Best.{Best}
 use Rattle.model.specs.declared.Best.the-variants.{Nothing, Latency}
-use Rattle.model.specs.Common.{count, if_then_else_, eqZ}
+use Rattle.model.specs.Common.{if_then_else_, eqZ}
 use Rattle.model.specs.Limits.{mostJobs, mostTicks, mostClashes, mostWeight}
 use Rattle.model.specs.Batch.{ticks, delaysOf}
-use Rattle.model.specs.Plan.{start, Keeps, KeepsDelays, Valid, finish, latency}
+use Rattle.model.specs.Plan.{start, Keeps, KeepsDelays, Valid, latency}
 use Rattle.model.specs.Clash.{Clash, clashes}
 use Rattle.model.specs.Search.{Incumbent, Place, noClash, sideOf, turned, inequalities, startsAt, met, firstMet, turnedBack, backTo, back, prunes, becomeBest, branch, visit, next}
 use Rattle.model.proofs.BoolLaws.{apart}
 use Rattle.model.proofs.ListLaws.{map-some, some-map}
 use Rattle.model.proofs.SeqLaws.{getD-in}
 use Rattle.model.proofs.PlusLaws.{plus-le, le-plus}
+use Rattle.model.proofs.FinishLaws.{latency-mono}
 use Rattle.model.proofs.SideLaws.{side0-apart, side1-apart, sides}
 use Rattle.model.proofs.ClashLaws.{Unmet, apart-unmet, unmet-apart, Listed, clash-listed}
 use Rattle.model.proofs.DistanceLaws.{eqZ-eq, eqZ-refl}
@@ -44,16 +44,6 @@ pub record Fits (b : Batch) : Type 0 where
 -- the turns are on listed clashes
 unfoldable pub Named : Batch → List Turn → Type 0
 Named b ts = (t : Turn) → List·Memᴰ t ts → t .clash < length (clashes b)
-
--- ---- lists
-
-largest-mono : (f g : ℕ → ℕ) (xs : List ℕ) → ((x : ℕ) → f x ≤ g x) → foldr max 0 (map f xs) ≤ foldr max 0 (map g xs)
-largest-mono f g [] h = le-refl 0
-largest-mono f g (x ∷ xs) h = omega (arith, h x, largest-mono f g xs h)
-
-pub latency-mono : (b : Batch) (ts us : List ℕ) → ((j : ℕ) → start ts j ≤ start us j) → latency b ts ≤ latency b us
-unfolding latency finish
-latency-mono b ts us h = largest-mono (λ i. start ts i + ticks b i) (λ i. start us i + ticks b i) (count 0 (b .n)) (λ i. omega (arith, h i))
 
 -- ---- the first clash that is met
 

@@ -25,7 +25,8 @@ use Rattle.model.specs.Limits.{mostLatency}
 use Rattle.model.specs.Search.{Place, turned, inequalities, startsAt, back, prunes, visit}
 use Rattle.model.proofs.PlusLaws.{plus-mono, plus-le, le-plus}
 use Rattle.model.proofs.StartsLaws.{Inside, Solves, reach, raised-in, after, rounds-length, after-suc, after-rises, after-below, settles, first-zero, least-length, least-keeps, least-below, least-found}
-use Rattle.model.proofs.NodeLaws.{Fits, Named, latency-mono}
+use Rattle.model.proofs.FinishLaws.{latency-mono}
+use Rattle.model.proofs.NodeLaws.{Fits, Named}
 use Rattle.model.proofs.BoundLaws.{latency-bound}
 
 -- ---- starts at or below every solution

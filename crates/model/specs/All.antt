@@ -1,7 +1,7 @@
 -- One name that unfolds every definition, for the theorems that compute with them.
 use Rattle.model.specs.Common.{if_then_else_, between, eqZ, count, all, any, keep, upTo, pad, joined, isEmpty, isSome, _>>=_, require, given}
 use Rattle.model.specs.Batch.{blankJob, blankDelay, jobOf, ticks, mask, bit, delayOf, delaysOf}
-use Rattle.model.specs.Plan.{start, Keeps, Holds, KeepsDelays, KeepsStations, finish, latency}
+use Rattle.model.specs.Plan.{start, Keeps, Holds, KeepsDelays, KeepsStations, stayIn, stay, finish, latency}
 use Rattle.model.specs.Clash.{meet, clashing, distances, clashesOf, clashes}
 use Rattle.model.specs.Starts.{plus, raised, rounds, same, firstStarts, leastStarts, heavier, entry, table}
 use Rattle.model.specs.Search.{noClash, sideOf, turned, inequalities, startsAt, met, firstMet, nextSide, movedOn, turnedBack, backTo, back, prunes, becomeBest, branch, visit, next, empty, isTurn, turnsOf, placeOf, searchOf, freshPlace, freshSearch, node, nodesOn, nodes, nodeLimit}
@@ -17,5 +17,5 @@ use Rattle.model.specs.Program.{goOn, planned, printed, textFor}
 use Rattle.model.specs.Calls.{call, after, refuses, granted}
 
 unfoldable pub definitions : Unit {0}
-unfolding if_then_else_ between eqZ count all any keep upTo pad joined isEmpty isSome _>>=_ require given blankJob blankDelay jobOf ticks mask bit delayOf delaysOf start Keeps Holds KeepsDelays KeepsStations finish latency meet clashing distances clashesOf clashes plus raised rounds same firstStarts leastStarts heavier entry table noClash sideOf turned inequalities startsAt met firstMet nextSide movedOn turnedBack backTo back prunes becomeBest branch visit next empty isTurn turnsOf placeOf searchOf freshPlace freshSearch node nodesOn nodes nodeLimit digit byte bytesOf lineOf frameBytes readLine digitOf digitsOf line two four unsigned headerLine masksOf jobLine delayLine jobsOf batchFile padJob batchOf blanked countsOk ticksOk jobsOk weightOk fewClashes delaysMet at wide signed frameIs header wides jobIn job delayIn delay due readOne readAll readFile openFile blankSearch openedAs opened soundBatch distinct soundTurns soundPath soundBest sound runRefusal counted answerOf startsAfter answered ranAs ran runTold totalTold verdictOf openTold writeTold judgeTold bestTold planLines planText batchText refusalLine fitting writtenAs written jobsIn startsIn claimText RightJobs RightPlan claimHead claimLine readLines readClaim as17 jobsRight keeps valid planRight judgeText judge judgedAs judged goOn planned printed textFor call after refuses granted
+unfolding if_then_else_ between eqZ count all any keep upTo pad joined isEmpty isSome _>>=_ require given blankJob blankDelay jobOf ticks mask bit delayOf delaysOf start Keeps Holds KeepsDelays KeepsStations stayIn stay finish latency meet clashing distances clashesOf clashes plus raised rounds same firstStarts leastStarts heavier entry table noClash sideOf turned inequalities startsAt met firstMet nextSide movedOn turnedBack backTo back prunes becomeBest branch visit next empty isTurn turnsOf placeOf searchOf freshPlace freshSearch node nodesOn nodes nodeLimit digit byte bytesOf lineOf frameBytes readLine digitOf digitsOf line two four unsigned headerLine masksOf jobLine delayLine jobsOf batchFile padJob batchOf blanked countsOk ticksOk jobsOk weightOk fewClashes delaysMet at wide signed frameIs header wides jobIn job delayIn delay due readOne readAll readFile openFile blankSearch openedAs opened soundBatch distinct soundTurns soundPath soundBest sound runRefusal counted answerOf startsAfter answered ranAs ran runTold totalTold verdictOf openTold writeTold judgeTold bestTold planLines planText batchText refusalLine fitting writtenAs written jobsIn startsIn claimText RightJobs RightPlan claimHead claimLine readLines readClaim as17 jobsRight keeps valid planRight judgeText judge judgedAs judged goOn planned printed textFor call after refuses granted
 definitions = tt

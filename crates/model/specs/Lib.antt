@@ -3,6 +3,7 @@ pub mod Common
 pub mod Limits
 pub mod Batch
 pub mod Plan
+pub mod Finish
 pub mod Clash
 pub mod Starts
 pub mod Search

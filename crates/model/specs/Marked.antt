@@ -86,7 +86,8 @@ rows =
     ∷ opens "A0010202 A1010001 A1010001 A200010000 A201000000" once 3 (noPlanAt 3 ∷ [])
     ∷ refusedWith 10 (fileOf "A0010202 A1010001 A1010002 A200010001 A201000000")
     ∷ opens "A0010202 A1010001 A1010002 A200010001 A20100FFFF" once 1 (planAt 2 1 (0 ∷ 1 ∷ []) ∷ [])
-    ∷ opens "A0010100 A10200010000" once 1 (planAt 2 1 (0 ∷ []) ∷ [])
+    -- (02, Q-3: a job finishes with its last non-empty tick)
+    ∷ opens "A0010100 A10200010000" once 1 (planAt 1 1 (0 ∷ []) ∷ [])
     -- C9: C3 in three runs
     ∷ opens c3 (0 ∷ 2 ∷ 1 ∷ []) 3 (spentAt 0 ∷ spentAt 2 ∷ planAt 3 3 (1 ∷ 0 ∷ []) ∷ [])
     -- C10: both ends of w, and one past each
@@ -101,7 +102,7 @@ rows =
     -- a weight below 0 that raises a start
     ∷ opens "A0010302 A1010001 A1010002 A1010004 A200010005 A20102FFFE" once 1 (planAt 6 1 (0 ∷ 5 ∷ 3 ∷ []) ∷ [])
     -- four jobs: the order in which clashes are branched on
-    ∷ opens "A0010400 A10200010000 A1010002 A1010002 A10200010003" once 5 (planAt 3 5 (0 ∷ 0 ∷ 1 ∷ 1 ∷ []) ∷ [])
+    ∷ opens "A0010400 A10200010004 A1010002 A1010002 A10200010003" once 5 (planAt 3 5 (0 ∷ 0 ∷ 1 ∷ 1 ∷ []) ∷ [])
     -- runs on an ended search give its result again
     ∷ opens c3 (3 ∷ 0 ∷ 1000000 ∷ []) 3 (planAt 3 3 (1 ∷ 0 ∷ []) ∷ planAt 3 3 (1 ∷ 0 ∷ []) ∷ planAt 3 3 (1 ∷ 0 ∷ []) ∷ [])
     -- a refused run changes nothing

@@ -1,16 +1,17 @@
 -- Plan and latency, by ticks and stations and with no word of clashes. A plan (a schedule) is the list of its starts.
-use Prim.Native.Nat.{ℕ, _+_, _≤_, _<_, max}
+use Prim.Native.Nat.{ℕ, zero, suc, _+_, _≤_, _<_, max}
 use mathlib.Core.Path.{_≡_}
 use mathlib.Core.List.{List, List·Memᴰ, map, foldr}
 use lib.ListN.{getD, length}
 use lib.IntN.{subℕ}
 use lib.Signed.{_≤ℤ_}
-use lib.Dec.{T}
+use lib.Dec.{T, eqb}
 use Rattle.model.specs.declared.Delay.{Delay}
+use Rattle.model.specs.declared.Job.{Job}
 use Rattle.model.specs.declared.Batch.{Batch}
-use Rattle.model.specs.Common.{count}
+use Rattle.model.specs.Common.{if_then_else_, count}
 use Rattle.model.specs.Limits.{stations}
-use Rattle.model.specs.Batch.{ticks, mask, bit, delaysOf}
+use Rattle.model.specs.Batch.{jobOf, ticks, mask, bit, delaysOf}
 
 -- t_i of a plan
 unfoldable pub start : List ℕ → ℕ → ℕ
@@ -38,11 +39,20 @@ pub record Valid (b : Batch) (ts : List ℕ) : Type 0 where
   pub delays : KeepsDelays b ts
   pub stations : KeepsStations b ts
 
--- t_i + p_i, for job i started at t_i
-unfoldable pub finish : Batch → ℕ → ℕ → ℕ
-finish b i t = t + ticks b i
+-- of a job's first p ticks the number of the last non-empty one, plus 1; 0 where they hold no station
+unfoldable pub stayIn : Job → ℕ → ℕ
+stayIn job zero = 0
+stayIn job (suc a) = if eqb (getD (job .masks) a 0) 0 then stayIn job a else suc a
 
--- the largest t_i + p_i
+-- how many ticks a job stays: until its last station lets go
+unfoldable pub stay : Job → ℕ
+stay job = stayIn job (job .ticks)
+
+-- t_i plus the number of job i's last non-empty tick plus 1; t_i where it holds no station (02, Q-3)
+unfoldable pub finish : Batch → ℕ → ℕ → ℕ
+finish b i t = t + stay (jobOf b i)
+
+-- the largest finish, 0 included
 unfoldable pub latency : Batch → List ℕ → ℕ
 latency b ts = foldr max 0 (map (λ i. finish b i (start ts i)) (count 0 (b .n)))
 

@@ -33,7 +33,7 @@ use Rattle.search.specs.declared.node.Sizes.{Sizes}
 use Rattle.search.specs.Walk.{turnsIn, Path, Coded, Steps, placeAt}
 use Rattle.search.specs.Kit.{Works}
 use Rattle.search.proofs.RowsLaws.{kept-fresh}
-use Rattle.search.proofs.WorksLaws.{passing-ticks, turns-coded}
+use Rattle.search.proofs.WorksLaws.{passing-stays, turns-coded}
 use Rattle.search.proofs.RecordLaws.{record-back, path-held, place-held, place-is-sound}
 
 -- the record of a place, once its path is put together
@@ -65,9 +65,9 @@ first-paired s x e p k h =
       (record { each = λ i l. known .each i (omega arith) }, record { each = λ i l. near .each i (omega arith) }),
     )
 
--- the ticks that the longest job is found from
-pub first-ticks : (s : Search) (x : Examined) → sound s ≡ true → Prepared s x → Small (x .ticks) 16
-first-ticks s x e p = rw (p .ticks) (passing-ticks (s .batch) (record-passes s e))
+-- the stays that the longest is found from
+pub first-stays : (s : Search) (x : Examined) → sound s ≡ true → Prepared s x → Small (x .stays) 16
+first-stays s x e p = rw (p .stays) (passing-stays (s .batch) (record-passes s e))
 
 module _ (s : Search) (x : Examined) (e : sound s ≡ true) (o : s .ended ≡ false) (p : Prepared s x) (l : length (x .turns) ≡ 1024) where
   -- where the nodes start from
@@ -90,10 +90,10 @@ module _ (s : Search) (x : Examined) (e : sound s ≡ true) (o : s .ended ≡ fa
   first-coded = turns-coded (s .batch) (x .turns) first first-path first-sound (x .clashes) (p .clashes)
 
   pub first-works : (sizes : Sizes) (code pair held end tail head gap : List ℕ) (paired : ℕ)
-      → sizes .jobs ≡ s .batch .n → sizes .delays ≡ s .batch .m → sizes .clashes ≡ x .clashes .count → sizes .longest ≡ longestOf (x .ticks)
+      → sizes .jobs ≡ s .batch .n → sizes .delays ≡ s .batch .m → sizes .clashes ≡ x .clashes .count → sizes .longest ≡ longestOf (x .stays)
       → code ≡ heaviestOf (sizes .delays) (x .delays .from) (x .delays .to) (x .delays .code)
       → paired ≤ x .clashes .count → Paired (x .clashes .codes) pair held end (sizes .pairs) paired → Steps (x .clashes .codes) (x .turns) (x .depth) tail head gap
-      → Works (s .batch) sizes (record { from = x .delays .from; to = x .delays .to; code = code; ticks = x .ticks; codes = x .clashes .codes; pair = pair; held = held; end = end })
+      → Works (s .batch) sizes (record { from = x .delays .from; to = x .delays .to; code = code; stays = x .stays; codes = x .clashes .codes; pair = pair; held = held; end = end })
       (record { turns = x .turns; tail = tail; head = head; gap = gap; rows = replicate 32 (replicate 24 0); tags = replicate 32 65535; ends = replicate 32 0 }) first
   first-works sizes code pair held end tail head gap paired a c d h k q r g =
       record {
@@ -102,11 +102,11 @@ module _ (s : Search) (x : Examined) (e : sound s ≡ true) (o : s .ended ≡ fa
         from = ap (λ (y : Delays). y .from) (p .delays);
         to = ap (λ (y : Delays). y .to) (p .delays);
         code = k ∙ rw (c, p .delays);
-        each-ticks = p .ticks;
+        each-stays = p .stays;
         longest = h;
         listed = rw d (p .clashes);
         paired = (paired, (omega arith, r));
-        stands = record { path = first-path; steps = g; kept = kept-fresh (s .batch) (x .ticks) (x .turns) (x .depth) (first-path .deep) };
+        stands = record { path = first-path; steps = g; kept = kept-fresh (s .batch) (x .stays) (x .turns) (x .depth) (first-path .deep) };
         is-sound = first-sound;
       }
 

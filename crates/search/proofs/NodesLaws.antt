@@ -87,7 +87,7 @@ module _ (sizes : Sizes) (kit : Kit) where
               from = w .from;
               to = w .to;
               code = w .code;
-              each-ticks = w .each-ticks;
+              each-stays = w .each-stays;
               longest = w .longest;
               listed = w .listed;
               paired = w .paired;

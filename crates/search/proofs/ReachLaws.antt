@@ -24,7 +24,8 @@ use Rattle.model.proofs.GoodLaws.{good-named}
 use Rattle.model.proofs.SoundLaws.{fits}
 use Rattle.model.proofs.UnderLaws.{Under, under-rounds, stopped-back, beyond-none}
 use Rattle.starts.specs.Rounds.{Reached, roundsOf}
-use Rattle.starts.specs.Delays.{delaysRead, ticksRead}
+use Rattle.starts.specs.Delays.{delaysRead}
+use Rattle.starts.specs.Stays.{staysRead}
 use Rattle.starts.specs.Latency.{latencyOf}
 use Rattle.starts.specs.Least.{leastOf}
 use Rattle.starts.proofs.PlaceLaws.{Tabled}
@@ -48,8 +49,8 @@ below-kept Nothing l h = refl
 below-kept (Latency k) l h = lt-leb k l h
 
 -- the same answer for the same arrays
-least-same : (tail head gap : List ℕ) (depth bound latency : ℕ) {n n′ m m′ : ℕ} {from from′ to to′ code code′ ticks ticks′ starts starts′ : List ℕ} → n ≡ n′ → m ≡ m′ → from ≡ from′ → to ≡ to′ → code ≡ code′ → ticks ≡ ticks′ → starts ≡ starts′
-    → leastOf n m from to code tail head gap depth ticks bound starts latency ≡ leastOf n′ m′ from′ to′ code′ tail head gap depth ticks′ bound starts′ latency
+least-same : (tail head gap : List ℕ) (depth bound latency : ℕ) {n n′ m m′ : ℕ} {from from′ to to′ code code′ stays stays′ starts starts′ : List ℕ} → n ≡ n′ → m ≡ m′ → from ≡ from′ → to ≡ to′ → code ≡ code′ → stays ≡ stays′ → starts ≡ starts′
+    → leastOf n m from to code tail head gap depth stays bound starts latency ≡ leastOf n′ m′ from′ to′ code′ tail head gap depth stays′ bound starts′ latency
 least-same tail head gap depth bound latency a b c d e f g = rw (a, b, c, d, e, f, g)
 
 module _ (b : Batch) (sizes : Sizes) (kit : Kit) (t : Trail) (walk : Walk) (w : Works b sizes kit t walk) where
@@ -89,23 +90,23 @@ module _ (b : Batch) (sizes : Sizes) (kit : Kit) (t : Trail) (walk : Walk) (w : 
   lost e = ap (visit (clashes b) b (placeAt (t .turns) walk)) e
 
   -- what the node begins with
-  module _ (zero : List ℕ) (z : zero ≡ replicate 24 0) (made : List ℕ × ℕ) (e : made ≡ begun (t .rows) (t .tags) (t .ends) (t .tail) (t .head) (t .gap) (walk .depth) (kit .ticks) (sizes .longest) zero) where
-    begin : Begins b (counts b sizes kit t walk w .1) (kit .ticks) (t .turns) (t .rows) (t .tags) (t .ends) (t .tail) (t .head) (t .gap) (sizes .longest) (w .longest) (walk .depth) made
+  module _ (zero : List ℕ) (z : zero ≡ replicate 24 0) (made : List ℕ × ℕ) (e : made ≡ begun (t .rows) (t .tags) (t .ends) (t .tail) (t .head) (t .gap) (walk .depth) (kit .stays) (sizes .longest) zero) where
+    begin : Begins b (counts b sizes kit t walk w .1) (kit .stays) (t .turns) (t .rows) (t .tags) (t .ends) (t .tail) (t .head) (t .gap) (sizes .longest) (w .longest) (walk .depth) made
     begin =
-        rw (e, z) (begins b (counts b sizes kit t walk w .1) (kit .ticks) (t .turns) (t .rows) (t .tags) (t .ends) (t .tail) (t .head) (t .gap) (sizes .longest) (w .longest) (walk .depth) (w .stands .kept) (turn-stored b sizes kit t walk w))
+        rw (e, z) (begins b (counts b sizes kit t walk w .1) (kit .stays) (t .turns) (t .rows) (t .tags) (t .ends) (t .tail) (t .head) (t .gap) (sizes .longest) (w .longest) (walk .depth) (w .stands .kept) (turn-stored b sizes kit t walk w))
 
     base : Base b qs (made .0)
     base = begin .base
 
     -- its latency is that of the arrays, and of the definitions
-    pub begun-latency : made .1 ≡ latencyOf (kit .ticks) (made .0) 24
+    pub begun-latency : made .1 ≡ latencyOf (kit .stays) (made .0) 24
     begun-latency = begin .latency
 
     pub begun-long : length (made .0) ≡ 24
     begun-long = ap length (base .padded) ∙ pad-length 24 0 (base .jobs) (omega (arith, base .long, counts b sizes kit t walk w .1))
 
-    first : made .1 ≡ latencyOf (ticksRead b) (pad 24 0 (base .jobs)) 24
-    first = begun-latency ∙ ap (λ (p : List ℕ). latencyOf p (made .0) 24) (w .each-ticks) ∙ ap (λ (s : List ℕ). latencyOf (ticksRead b) s 24) (base .padded)
+    first : made .1 ≡ latencyOf (staysRead b) (pad 24 0 (base .jobs)) 24
+    first = begun-latency ∙ ap (λ (p : List ℕ). latencyOf p (made .0) 24) (w .each-stays) ∙ ap (λ (s : List ℕ). latencyOf (staysRead b) s 24) (base .padded)
 
     -- at best's already
     pub gone-at-once : boundOf (walk .best) ≤ made .1 → next (clashes b) b (placeAt (t .turns) walk) ≡ back ts (incumbent (walk .best) (walk .starts))
@@ -118,10 +119,10 @@ module _ (b : Batch) (sizes : Sizes) (kit : Kit) (t : Trail) (walk : Walk) (w : 
 
       -- what the rounds leave
       abbrev reached : Reached
-      reached = roundsOf table (ticksRead b) ((b .n + 3) / 4) bound (pad 24 0 (base .jobs)) (made .1) (b .n)
+      reached = roundsOf table (staysRead b) ((b .n + 3) / 4) bound (pad 24 0 (base .jobs)) (made .1) (b .n)
 
-      abbrev all-came : Came qs (base .jobs) (ticksRead b) bound (b .n) reached
-      all-came = came (b .n) (counts b sizes kit t walk w .1) table qs tabled (base .jobs) (ticksRead b) (base .long) bound limit (made .1) first p (b .n)
+      abbrev all-came : Came qs (base .jobs) (staysRead b) bound (b .n) reached
+      all-came = came (b .n) (counts b sizes kit t walk w .1) table qs tabled (base .jobs) (staysRead b) (base .long) bound limit (made .1) first p (b .n)
 
       abbrev ss : List ℕ
       ss = rounds qs (base .jobs) (all-came .j)
@@ -136,10 +137,10 @@ module _ (b : Batch) (sizes : Sizes) (kit : Kit) (t : Trail) (walk : Walk) (w : 
       unfolding startsAt
       found f =
           let c = counts b sizes kit t walk w in
-          let q = found-below (b .n) (c .1) table qs tabled (base .jobs) (ticksRead b) (base .long) bound limit (made .1) first p f in
+          let q = found-below (b .n) (c .1) table qs tabled (base .jobs) (staysRead b) (base .long) bound limit (made .1) first p f in
           record {
             jobs = ss;
-            least = found-least (b .n) (c .1) table qs tabled (base .jobs) (ticksRead b) (base .long) bound limit (made .1) first p (c .0) (base .under) f;
+            least = found-least (b .n) (c .1) table qs tabled (base .jobs) (staysRead b) (base .long) bound limit (made .1) first p (c .0) (base .under) f;
             padded = all-came .starts;
             told = last-is;
             below = below-kept (walk .best) (latency b ss) (omega (arith, q, last-is));
@@ -148,7 +149,7 @@ module _ (b : Batch) (sizes : Sizes) (kit : Kit) (t : Trail) (walk : Walk) (w : 
 
       not-found : reached .found ≡ false → next (clashes b) b (placeAt (t .turns) walk) ≡ back ts (incumbent (walk .best) (walk .starts))
       unfolding startsAt
-      not-found f = go (lost-least (b .n) (c .1) table qs tabled (base .jobs) (ticksRead b) (base .long) bound limit (made .1) first p (c .0) (base .under) f)
+      not-found f = go (lost-least (b .n) (c .1) table qs tabled (base .jobs) (staysRead b) (base .long) bound limit (made .1) first p (c .0) (base .under) f)
         where
           c : (1 ≤ b .n) × (b .n ≤ 24) × (b .m ≤ 128)
           c = counts b sizes kit t walk w
@@ -158,11 +159,11 @@ module _ (b : Batch) (sizes : Sizes) (kit : Kit) (t : Trail) (walk : Walk) (w : 
           go (inr h) = gone ss (under-rounds qs (base .jobs) (base .under) (all-came .j)) (omega (arith, last-is))
 
       -- what least_starts answers, over the arrays
-      is : (r : Reached) → r ≡ leastOf (sizes .jobs) (sizes .delays) (kit .from) (kit .to) (kit .code) (t .tail) (t .head) (t .gap) (walk .depth) (kit .ticks) bound (made .0) (made .1) → r ≡ reached
+      is : (r : Reached) → r ≡ leastOf (sizes .jobs) (sizes .delays) (kit .from) (kit .to) (kit .code) (t .tail) (t .head) (t .gap) (walk .depth) (kit .stays) bound (made .0) (made .1) → r ≡ reached
       unfolding leastOf
-      is r h = h ∙ least-same (t .tail) (t .head) (t .gap) (walk .depth) bound (made .1) (w .jobs) (w .few) (w .from) (w .to) (w .code) (w .each-ticks) (base .padded)
+      is r h = h ∙ least-same (t .tail) (t .head) (t .gap) (walk .depth) bound (made .1) (w .jobs) (w .few) (w .from) (w .to) (w .code) (w .each-stays) (base .padded)
 
-      pub reaches : (r : Reached) → r ≡ leastOf (sizes .jobs) (sizes .delays) (kit .from) (kit .to) (kit .code) (t .tail) (t .head) (t .gap) (walk .depth) (kit .ticks) bound (made .0) (made .1)
+      pub reaches : (r : Reached) → r ≡ leastOf (sizes .jobs) (sizes .delays) (kit .from) (kit .to) (kit .code) (t .tail) (t .head) (t .gap) (walk .depth) (kit .stays) bound (made .0) (made .1)
           → (r .found ≡ true → Least b t walk (r .starts) (r .latency)) × (r .found ≡ false → next (clashes b) b (placeAt (t .turns) walk) ≡ back ts (incumbent (walk .best) (walk .starts)))
       reaches r h =
           subst (λ (x : Reached). (x .found ≡ true → Least b t walk (x .starts) (x .latency)) × (x .found ≡ false → next (clashes b) b (placeAt (t .turns) walk) ≡ back ts (incumbent (walk .best) (walk .starts))))

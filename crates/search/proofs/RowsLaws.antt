@@ -32,9 +32,9 @@ use Rattle.search.proofs.BackLaws.{turns-more, turns-set}
 
 -- ---- the cases of the code
 
-module _ (rows : List (List ℕ)) (tags ends tail head gap ticks : List ℕ) (longest : ℕ) (first : List ℕ) where
+module _ (rows : List (List ℕ)) (tags ends tail head gap stays : List ℕ) (longest : ℕ) (first : List ℕ) where
   abbrev Begun : ℕ → List ℕ → ℕ → Type 0
-  Begun depth starts latency = _≡_ {A = List ℕ × ℕ} (starts, latency) (begun rows tags ends tail head gap depth ticks longest first)
+  Begun depth starts latency = _≡_ {A = List ℕ × ℕ} (starts, latency) (begun rows tags ends tail head gap depth stays longest first)
 
   pub begun-none : (depth : ℕ) → depth ≡ 0 → Begun depth first longest
   unfolding begun
@@ -50,7 +50,7 @@ module _ (rows : List (List ℕ)) (tags ends tail head gap ticks : List ℕ) (lo
 
     -- a row, raised by the last turn; the jobs, the larger sum and the latency are results of calls
     pub begun-raised : (depth : ℕ) → (depth ≡ 0 → ⊥) → last ≡ depth - 1 → tag ≡ last → (i j most wide latency : ℕ) → i ≡ getD tail last 0 → j ≡ getD head last 0
-        → most ≡ max (getD (getD rows (last % 32) []) j 0 + 30000) (getD (getD rows (last % 32) []) i 0 + getD gap last 0) → wide ≡ getD ticks j 0
+        → most ≡ max (getD (getD rows (last % 32) []) j 0 + 30000) (getD (getD rows (last % 32) []) i 0 + getD gap last 0) → wide ≡ getD stays j 0
         → latency ≡ max (getD ends (last % 32) 0) (most - 30000 + wide) → Begun depth (set (getD rows (last % 32) []) j (most - 30000)) latency
     unfolding begun raisedRow raisedStart if_then_else_
     begun-raised zero more e h i j most wide latency a b c g l = absurd (more refl)
@@ -113,11 +113,11 @@ module _ (b : Batch) (few : b .n ≤ 24) where
           under = under-more (base .jobs) (base .long) (base .under);
         }
 
-  module _ (ticks turns : List ℕ) (rows : List (List ℕ)) (tags ends tail head gap : List ℕ) (longest : ℕ) (l : longest ≡ longestOf ticks) where
+  module _ (stays turns : List ℕ) (rows : List (List ℕ)) (tags ends tail head gap : List ℕ) (longest : ℕ) (l : longest ≡ longestOf stays) where
     -- what a node begins with
     pub record Begins (depth : ℕ) (made : List ℕ × ℕ) : Type 0 where
       pub base : Base b (inequalities (clashes b) b (turnsIn turns depth)) (made .0)
-      pub latency : made .1 ≡ latencyOf ticks (made .0) 24
+      pub latency : made .1 ≡ latencyOf stays (made .0) 24
 
     begins-none : (depth : ℕ) → Begins depth (replicate 24 0, longest)
     unfolding longestOf
@@ -127,15 +127,15 @@ module _ (b : Batch) (few : b .n ≤ 24) where
     abbrev pub lastOf : ℕ → Delay
     lastOf last = turned (clashes b) (turnOf (getD turns last 0))
 
-    begins-raised : (last : ℕ) → Base b (inequalities (clashes b) b (turnsIn turns last)) (getD rows (last % 32) []) → getD ends (last % 32) 0 ≡ latencyOf ticks (getD rows (last % 32) []) 24
+    begins-raised : (last : ℕ) → Base b (inequalities (clashes b) b (turnsIn turns last)) (getD rows (last % 32) []) → getD ends (last % 32) 0 ≡ latencyOf stays (getD rows (last % 32) []) 24
         → Fits (b .n) (lastOf last) → getD tail last 0 ≡ lastOf last .from → getD head last 0 ≡ lastOf last .to → getD gap last 0 ≡ coded (lastOf last .weight)
-        → Begins (suc last) (raisedRow (getD rows (last % 32) []) (getD ends (last % 32) 0) (getD tail last 0) (getD head last 0) (getD gap last 0) ticks)
+        → Begins (suc last) (raisedRow (getD rows (last % 32) []) (getD ends (last % 32) 0) (getD tail last 0) (getD head last 0) (getD gap last 0) stays)
     unfolding raisedRow raisedStart
     begins-raised last base g f p q r =
         rw (p, q, r)
         (record {
           base = rw (turns-more turns last) (base-raised (turnsIn turns last) (turnOf (getD turns last 0)) f row base);
-          latency = omega (arith, g, latency-set ticks row (lastOf last .to) (max (getD row (lastOf last .to) 0 + 30000) (getD row (lastOf last .from) 0 + coded (lastOf last .weight)) - 30000) (omega (arith, long, f .to)) (omega arith) 24 (omega (arith, f .to)));
+          latency = omega (arith, g, latency-set stays row (lastOf last .to) (max (getD row (lastOf last .to) 0 + 30000) (getD row (lastOf last .from) 0 + coded (lastOf last .weight)) - 30000) (omega (arith, long, f .to)) (omega arith) 24 (omega (arith, f .to)));
         })
       where
         row : List ℕ
@@ -144,15 +144,15 @@ module _ (b : Batch) (few : b .n ≤ 24) where
         long : length row ≡ 24
         long = ap length (base .padded) ∙ pad-length 24 0 (base .jobs) (omega (arith, base .long))
 
-    pub begins : (depth : ℕ) → Kept b ticks turns depth rows tags ends
+    pub begins : (depth : ℕ) → Kept b stays turns depth rows tags ends
         → ((last : ℕ) → last < depth → Fits (b .n) (lastOf last) × ((getD tail last 0 ≡ lastOf last .from) × ((getD head last 0 ≡ lastOf last .to) × (getD gap last 0 ≡ coded (lastOf last .weight)))))
-        → Begins depth (begun rows tags ends tail head gap depth ticks longest (replicate 24 0))
+        → Begins depth (begun rows tags ends tail head gap depth stays longest (replicate 24 0))
     unfolding begun if_then_else_
     begins zero k s = begins-none 0
     begins (suc last) k s = go (eqb (getD tags (last % 32) 0) last) refl
       where
         go : (p : Bool) → eqb (getD tags (last % 32) 0) last ≡ p
-            → Begins (suc last) (if p then raisedRow (getD rows (last % 32) []) (getD ends (last % 32) 0) (getD tail last 0) (getD head last 0) (getD gap last 0) ticks else (replicate 24 0, longest))
+            → Begins (suc last) (if p then raisedRow (getD rows (last % 32) []) (getD ends (last % 32) 0) (getD tail last 0) (getD head last 0) (getD gap last 0) stays else (replicate 24 0, longest))
         go true e =
             let tagged = eqb-true (getD tags (last % 32) 0) last e in
             let step = s last (omega arith) in
@@ -161,9 +161,9 @@ module _ (b : Batch) (few : b .n ≤ 24) where
 
 -- ---- the ring
 
-module _ (b : Batch) (ticks : List ℕ) where
+module _ (b : Batch) (stays : List ℕ) where
   -- a fresh ring has no row
-  pub kept-fresh : (turns : List ℕ) (depth : ℕ) → depth ≤ 1024 → Kept b ticks turns depth (replicate 32 (replicate 24 0)) (replicate 32 65535) (replicate 32 0)
+  pub kept-fresh : (turns : List ℕ) (depth : ℕ) → depth ≤ 1024 → Kept b stays turns depth (replicate 32 (replicate 24 0)) (replicate 32 65535) (replicate 32 0)
   kept-fresh turns depth h =
       record {
         long = length-replicate 32 (replicate {A = ℕ} 24 0);
@@ -183,7 +183,7 @@ module _ (b : Batch) (ticks : List ℕ) where
       rows (suc n) (suc k) = rows n k
 
   -- going back drops rows
-  pub kept-back : (turns turns′ : List ℕ) (depth left : ℕ) (rows : List (List ℕ)) (tags ends : List ℕ) → Kept b ticks turns depth rows tags ends → Kin turns depth turns′ left → Kept b ticks turns′ left rows tags ends
+  pub kept-back : (turns turns′ : List ℕ) (depth left : ℕ) (rows : List (List ℕ)) (tags ends : List ℕ) → Kept b stays turns depth rows tags ends → Kin turns depth turns′ left → Kept b stays turns′ left rows tags ends
   unfolding turnsIn
   kept-back turns turns′ depth left rows tags ends k i =
       record {
@@ -199,9 +199,9 @@ module _ (b : Batch) (ticks : List ℕ) where
       }
 
   -- one turn more, and the row of the node that takes it
-  pub kept-more : (turns : List ℕ) (depth x : ℕ) (rows : List (List ℕ)) (tags ends starts : List ℕ) (last : ℕ) → Kept b ticks turns depth rows tags ends
-      → Small starts 23016 → last ≤ 23016 → last ≡ latencyOf ticks starts 24 → Base b (inequalities (clashes b) b (turnsIn turns depth)) starts
-      → Kept b ticks (set turns depth x) (depth + 1) (set rows (depth % 32) starts) (set tags (depth % 32) depth) (set ends (depth % 32) last)
+  pub kept-more : (turns : List ℕ) (depth x : ℕ) (rows : List (List ℕ)) (tags ends starts : List ℕ) (last : ℕ) → Kept b stays turns depth rows tags ends
+      → Small starts 23016 → last ≤ 23016 → last ≡ latencyOf stays starts 24 → Base b (inequalities (clashes b) b (turnsIn turns depth)) starts
+      → Kept b stays (set turns depth x) (depth + 1) (set rows (depth % 32) starts) (set tags (depth % 32) depth) (set ends (depth % 32) last)
   kept-more turns depth x rows tags ends starts last k small most l base =
       record {
         long = length-set rows _ starts ∙ k .long;
@@ -233,7 +233,7 @@ module _ (b : Batch) (ticks : List ℕ) where
       tag d e p = sym (getD-set-other tags (depth % 32) (d % 32) depth 0 p) ∙ e
 
       late : (d : ℕ) → d < depth + 1 → getD (set tags (depth % 32) depth) (d % 32) 0 ≡ d → Dec (d % 32 ≡ depth % 32)
-          → getD (set ends (depth % 32) last) (d % 32) 0 ≡ latencyOf ticks (getD (set rows (depth % 32) starts) (d % 32) []) 24
+          → getD (set ends (depth % 32) last) (d % 32) 0 ≡ latencyOf stays (getD (set rows (depth % 32) starts) (d % 32) []) 24
       late d h e (yes p) =
           rw (p, getD-set-same ends (depth % 32) last 0 (omega (arith, k .ended)), getD-set-same rows (depth % 32) starts [] (omega (arith, k .long))) l
       late d h e (no p) =

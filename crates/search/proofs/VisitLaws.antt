@@ -90,7 +90,7 @@ module _ (b : Batch) (sizes : Sizes) (kit : Kit) (t : Trail) (walk : Walk) (w : 
   pub stands-back : (best : Best) (starts turns′ tail′ head′ gap′ : List ℕ) (walk′ : Walk) → Returned (kit .codes) (t .turns) (walk .depth) best starts turns′ tail′ head′ gap′ walk′
       → Stands b kit (record { turns = turns′; tail = tail′; head = head′; gap = gap′; rows = t .rows; tags = t .tags; ends = t .ends }) (walk′ .depth)
   stands-back best starts turns′ tail′ head′ gap′ walk′ r =
-      record { path = r .path; steps = r .steps; kept = kept-back b (kit .ticks) (t .turns) turns′ (walk .depth) (walk′ .depth) _ _ _ (w .stands .kept) (r .kin) }
+      record { path = r .path; steps = r .steps; kept = kept-back b (kit .stays) (t .turns) turns′ (walk .depth) (walk′ .depth) _ _ _ (w .stands .kept) (r .kin) }
 
   -- ---- least starts below best
 
@@ -107,14 +107,14 @@ module _ (b : Batch) (sizes : Sizes) (kit : Kit) (t : Trail) (walk : Walk) (w : 
     base = record { jobs = ss; long = long; padded = l .padded; under = under-least (b .n) _ ss (l .least) }
 
     -- their latency over the arrays
-    ends : last ≡ latencyOf (kit .ticks) starts 24
+    ends : last ≡ latencyOf (kit .stays) starts 24
     ends =
-        l .told ∙ sym (latency-padded b (counts b sizes kit t walk w .1) ss long) ∙ ap (λ (p : List ℕ). latencyOf p (pad 24 0 ss) 24) (sym (w .each-ticks))
-        ∙ ap (λ (x : List ℕ). latencyOf (kit .ticks) x 24) (sym (l .padded))
+        l .told ∙ sym (latency-padded b (counts b sizes kit t walk w .1) ss long) ∙ ap (λ (p : List ℕ). latencyOf p (pad 24 0 ss) 24) (sym (w .each-stays))
+        ∙ ap (λ (x : List ℕ). latencyOf (kit .stays) x 24) (sym (l .padded))
 
     small : Small starts 23016
     small =
-        below-small (kit .ticks) starts last 23017 (ap length (l .padded) ∙ pad-length 24 0 ss (omega (arith, long, counts b sizes kit t walk w .1))) ends (omega (arith, l .small)) (omega arith)
+        below-small (kit .stays) starts last 23017 (ap length (l .padded) ∙ pad-length 24 0 ss (omega (arith, long, counts b sizes kit t walk w .1))) ends (omega (arith, l .small)) (omega arith)
 
     -- ss is not cut off at best
     decided : next (clashes b) b place ≡ branch b place ss (firstMet (clashes b) ss 0)
@@ -172,5 +172,5 @@ module _ (b : Batch) (sizes : Sizes) (kit : Kit) (t : Trail) (walk : Walk) (w : 
                   steps-more (kit .codes) (set (t .turns) (walk .depth) x) (t .tail) (t .head) (t .gap) tail′ head′ gap′ (walk .depth) c x
                   (steps-less (kit .codes) (t .turns) (set (t .turns) (walk .depth) x) (t .tail) (t .head) (t .gap) (walk .depth) (walk .depth) (w .stands .steps) (omega arith) (λ i h. getD-set-other (t .turns) (walk .depth) i x 0 (λ z. omega arith)))
                   (met-room .1) (sym (getD-set-same (t .turns) (walk .depth) x 0 (omega (arith, w .stands .path .full, met-room .1)))) (omega arith) e;
-              kept = rw g (kept-more b (kit .ticks) (t .turns) (walk .depth) x (t .rows) (t .tags) (t .ends) starts last (w .stands .kept) small (l .small) ends base);
+              kept = rw g (kept-more b (kit .stays) (t .turns) (walk .depth) x (t .rows) (t .tags) (t .ends) starts last (w .stands .kept) small (l .small) ends base);
             }

@@ -36,11 +36,12 @@ use Rattle.clashes.proofs.ListedLaws.{ranged-at, listed-at as clash-listed-at, 
 use Rattle.starts.specs.Code.{coded, Fits, ClashFits}
 use Rattle.starts.specs.Rounds.{Small}
 use Rattle.starts.specs.Table.{Placed}
-use Rattle.starts.specs.Delays.{delaysRead, heaviestOf, ticksRead}
+use Rattle.starts.specs.Delays.{delaysRead, heaviestOf}
+use Rattle.starts.specs.Stays.{staysRead}
 use Rattle.starts.specs.Least.{Holds}
 use Rattle.starts.proofs.HeldLaws.{held-placed, heavy-placed}
 use Rattle.starts.proofs.TurnLaws.{clash-named, turn-side}
-use Rattle.starts.proofs.LatencyLaws.{ticks-small}
+use Rattle.starts.proofs.LatencyLaws.{stays-small}
 use Rattle.starts.proofs.SoundLaws.{delays-length, holds-read}
 use Rattle.search.specs.declared.node.Walk.{Walk}
 use Rattle.search.specs.declared.node.Sizes.{Sizes}
@@ -71,9 +72,9 @@ unfolding placeOf searchOf placeAt
 place-back b total turns walk p =
     ap (λ (l : List Turn). record { turns = l; incumbent = record { best = walk .best; starts = walk .starts }; ended = walk .ended }) (turns-path (turnsIn turns (walk .depth)) (small-turns turns (walk .depth) p))
 
--- no job of a batch that passes has more than 16 ticks
-pub passing-ticks : (b : Batch) → Passes b → Small (ticksRead b) 16
-passing-ticks b p = ticks-small b (counts-iff (b .n) (b .m) .0 (p .counts) .0 .1) (fits b p .short)
+-- no job of a batch that passes stays longer than 16 ticks
+pub passing-stays : (b : Batch) → Passes b → Small (staysRead b) 16
+passing-stays b p = stays-small b (counts-iff (b .n) (b .m) .0 (p .counts) .0 .1) (fits b p .short)
 
 search-batch : (b : Batch) (total : ℕ) (q : Place) → searchOf b total q .batch ≡ b
 unfolding searchOf
@@ -177,8 +178,8 @@ module _ (b : Batch) (sizes : Sizes) (kit : Kit) (t : Trail) (walk : Walk) (w : 
   abbrev pub list : Clashes
   list = record { count = sizes .clashes; codes = kit .codes }
 
-  pub small-ticks : Small (kit .ticks) 16
-  small-ticks = rw (w .each-ticks) (passing-ticks b passes)
+  pub small-stays : Small (kit .stays) 16
+  small-stays = rw (w .each-stays) (passing-stays b passes)
 
   -- best is within its limits, and so is the bound
   pub bound-small : boundOf (walk .best) ≤ 23017

@@ -14,7 +14,8 @@ use Rattle.model.specs.Search.{startsAt, prunes, back, next, searchOf, nodesOn}
 use Rattle.model.specs.Sound.{sound}
 use Rattle.clashes.specs.List.{listOf}
 use Rattle.clashes.specs.Pairs.{Paired}
-use Rattle.starts.specs.Delays.{delaysRead, heaviestOf, ticksRead}
+use Rattle.starts.specs.Delays.{delaysRead, heaviestOf}
+use Rattle.starts.specs.Stays.{staysRead}
 use Rattle.starts.specs.Latency.{longestOf}
 use Rattle.search.specs.declared.node.Walk.{Walk}
 use Rattle.search.specs.declared.node.Sizes.{Sizes}
@@ -22,12 +23,12 @@ use Rattle.search.specs.declared.nodes.Walked.{Walked}
 use Rattle.search.specs.Walk.{Path, Kin, Steps, incumbent, turnsIn, placeAt}
 use Rattle.search.specs.Rows.{Kept}
 
--- what does not change in a run: the delays, the jobs' ticks, the clashes' codes, and these by pairs of jobs
+-- what does not change in a run: the delays, the jobs' stays, the clashes' codes, and these by pairs of jobs
 pub record Kit : Type 0 where
   pub from : List ℕ
   pub to : List ℕ
   pub code : List ℕ
-  pub ticks : List ℕ
+  pub stays : List ℕ
   pub codes : List ℕ
   pub pair : List ℕ
   pub held : List ℕ
@@ -47,17 +48,17 @@ pub record Trail : Type 0 where
 pub record Stands (b : Batch) (kit : Kit) (t : Trail) (depth : ℕ) : Type 0 where
   pub path : Path (t .turns) depth
   pub steps : Steps (kit .codes) (t .turns) depth (t .tail) (t .head) (t .gap)
-  pub kept : Kept b (kit .ticks) (t .turns) depth (t .rows) (t .tags) (t .ends)
+  pub kept : Kept b (kit .stays) (t .turns) depth (t .rows) (t .tags) (t .ends)
 
--- they hold the batch's delays, ticks and clashes, and a sound place
+-- they hold the batch's delays, stays and clashes, and a sound place
 pub record Works (b : Batch) (sizes : Sizes) (kit : Kit) (t : Trail) (walk : Walk) : Type 0 where
   pub jobs : sizes .jobs ≡ b .n
   pub few : sizes .delays ≡ b .m
   pub from : kit .from ≡ delaysRead b .from
   pub to : kit .to ≡ delaysRead b .to
   pub code : kit .code ≡ heaviestOf (b .m) (delaysRead b .from) (delaysRead b .to) (delaysRead b .code)
-  pub each-ticks : kit .ticks ≡ ticksRead b
-  pub longest : sizes .longest ≡ longestOf (kit .ticks)
+  pub each-stays : kit .stays ≡ staysRead b
+  pub longest : sizes .longest ≡ longestOf (kit .stays)
   pub listed : record { count = sizes .clashes; codes = kit .codes } ≡ listOf b
   pub paired : (n : ℕ) × ((n ≤ sizes .clashes) × Paired (kit .codes) (kit .pair) (kit .held) (kit .end) (sizes .pairs) n)
   pub stands : Stands b kit t (walk .depth)

@@ -25,14 +25,14 @@ raisedStart old i j code = max (getD old j 0 + 30000) (getD old i 0 + code) - 30
 
 -- starts and their latency, raised by it
 unfoldable pub raisedRow : List ℕ → ℕ → ℕ → ℕ → ℕ → List ℕ → List ℕ × ℕ
-raisedRow old latency i j code ticks = (set old j (raisedStart old i j code), max latency (raisedStart old i j code + getD ticks j 0))
+raisedRow old latency i j code stays = (set old j (raisedStart old i j code), max latency (raisedStart old i j code + getD stays j 0))
 
 -- the starts that a node at a depth begins with, and their latency: its parent's row, raised by its last turn, if that row is there
 unfoldable pub begun : List (List ℕ) → List ℕ → List ℕ → List ℕ → List ℕ → List ℕ → ℕ → List ℕ → ℕ → List ℕ → List ℕ × ℕ
-begun rows tags ends tail head gap zero ticks longest first = (first, longest)
-begun rows tags ends tail head gap (suc last) ticks longest first =
+begun rows tags ends tail head gap zero stays longest first = (first, longest)
+begun rows tags ends tail head gap (suc last) stays longest first =
     if eqb (getD tags (last % 32) 0) last
-    then raisedRow (getD rows (last % 32) []) (getD ends (last % 32) 0) (getD tail last 0) (getD head last 0) (getD gap last 0) ticks
+    then raisedRow (getD rows (last % 32) []) (getD ends (last % 32) 0) (getD tail last 0) (getD head last 0) (getD gap last 0) stays
     else (first, longest)
 
 -- an array of 24 starts of a batch's jobs, at or below every starts that keep these inequalities
@@ -44,10 +44,10 @@ pub record Base (b : Batch) (qs : List Delay) (starts : List ℕ) : Type 0 where
 
 -- a ring of 32 rows. A row whose tag is a depth above the node's is at or below every starts that keep the inequalities of the path down to there, and
 -- its latency stands beside it
-pub record Kept (b : Batch) (ticks turns : List ℕ) (depth : ℕ) (rows : List (List ℕ)) (tags ends : List ℕ) : Type 0 where
+pub record Kept (b : Batch) (stays turns : List ℕ) (depth : ℕ) (rows : List (List ℕ)) (tags ends : List ℕ) : Type 0 where
   pub long : length rows ≡ 32
   pub tagged : length tags ≡ 32
   pub ended : length ends ≡ 32
   pub small : SmallRing rows ends
-  pub latency : (d : ℕ) → d < depth → getD tags (d % 32) 0 ≡ d → getD ends (d % 32) 0 ≡ latencyOf ticks (getD rows (d % 32) []) 24
+  pub latency : (d : ℕ) → d < depth → getD tags (d % 32) 0 ≡ d → getD ends (d % 32) 0 ≡ latencyOf stays (getD rows (d % 32) []) 24
   pub under : (d : ℕ) → d < depth → getD tags (d % 32) 0 ≡ d → Base b (inequalities (clashes b) b (turnsIn turns d)) (getD rows (d % 32) [])

@@ -22,7 +22,7 @@ pub struct Walk {
     pub ended: bool,
 }
 
-// How many jobs, delays, clashes and pairs of jobs that clash there are, and the ticks of the longest job.
+// How many jobs, delays, clashes and pairs of jobs that clash there are, and the longest stay of a job.
 pub struct Sizes {
     pub jobs: usize,
     pub delays: usize,
@@ -49,7 +49,7 @@ fn reach(
     from: &[u8; 128],
     to: &[u8; 128],
     code: &[u16; 128],
-    ticks: &[u8; 24],
+    stays: &[u8; 24],
     codes: &[u16; 1024],
     pair: &[u16; 276],
     held: &[u32; 276],
@@ -64,9 +64,9 @@ fn reach(
     starts: &mut [u16; 24],
     latency: &mut u16,
 ) -> bool
-    requires { ⌜ Ready sizes (record { from = now from; to = now to; code = now code; ticks = now ticks; codes = now codes; pair = now pair; held = now held; end = now end }) (record { turns = now turns; tail = now tail; head = now head; gap = now gap; rows = now rows; tags = now tags; ends = now ends }) walk ⌝ }
+    requires { ⌜ Ready sizes (record { from = now from; to = now to; code = now code; stays = now stays; codes = now codes; pair = now pair; held = now held; end = now end }) (record { turns = now turns; tail = now tail; head = now head; gap = now gap; rows = now rows; tags = now tags; ends = now ends }) walk ⌝ }
     requires { ⌜ now starts ≡ replicate 24 0 ⌝ }
-    ensures { λ r. ⌜ Reaches sizes (record { from = now (from .entry); to = now (to .entry); code = now (code .entry); ticks = now (ticks .entry); codes = now (codes .entry); pair = now (pair .entry); held = now (held .entry); end = now (end .entry) }) (record { turns = now (turns .entry); tail = now (tail .entry); head = now (head .entry); gap = now (gap .entry); rows = now (rows .entry); tags = now (tags .entry); ends = now (ends .entry) }) walk r (now (starts .exit)) (now (latency .exit)) ⌝ }
+    ensures { λ r. ⌜ Reaches sizes (record { from = now (from .entry); to = now (to .entry); code = now (code .entry); stays = now (stays .entry); codes = now (codes .entry); pair = now (pair .entry); held = now (held .entry); end = now (end .entry) }) (record { turns = now (turns .entry); tail = now (tail .entry); head = now (head .entry); gap = now (gap .entry); rows = now (rows .entry); tags = now (tags .entry); ends = now (ends .entry) }) walk r (now (starts .exit)) (now (latency .exit)) ⌝ }
 {
     let depth = walk.depth;
     let best = walk.best;
@@ -79,7 +79,7 @@ fn reach(
         head,
         gap,
         depth,
-        ticks,
+        stays,
         sizes.longest,
         starts,
     );
@@ -97,7 +97,7 @@ fn reach(
         head,
         gap,
         depth,
-        ticks,
+        stays,
         bound,
         starts,
         latency,
@@ -147,7 +147,7 @@ pub fn visit(
     from: &[u8; 128],
     to: &[u8; 128],
     code: &[u16; 128],
-    ticks: &[u8; 24],
+    stays: &[u8; 24],
     codes: &[u16; 1024],
     pair: &[u16; 276],
     held: &[u32; 276],
@@ -160,8 +160,8 @@ pub fn visit(
     tags: &mut [u16; 32],
     ends: &mut [u16; 32],
 ) -> Walk
-    requires { ⌜ Ready sizes (record { from = now from; to = now to; code = now code; ticks = now ticks; codes = now codes; pair = now pair; held = now held; end = now end }) (record { turns = now turns; tail = now tail; head = now head; gap = now gap; rows = now rows; tags = now tags; ends = now ends }) walk ⌝ }
-    ensures { λ r. ⌜ Visited sizes (record { from = now (from .entry); to = now (to .entry); code = now (code .entry); ticks = now (ticks .entry); codes = now (codes .entry); pair = now (pair .entry); held = now (held .entry); end = now (end .entry) }) (record { turns = now (turns .entry); tail = now (tail .entry); head = now (head .entry); gap = now (gap .entry); rows = now (rows .entry); tags = now (tags .entry); ends = now (ends .entry) }) walk (record { turns = now (turns .exit); tail = now (tail .exit); head = now (head .exit); gap = now (gap .exit); rows = now (rows .exit); tags = now (tags .exit); ends = now (ends .exit) }) r ⌝ }
+    requires { ⌜ Ready sizes (record { from = now from; to = now to; code = now code; stays = now stays; codes = now codes; pair = now pair; held = now held; end = now end }) (record { turns = now turns; tail = now tail; head = now head; gap = now gap; rows = now rows; tags = now tags; ends = now ends }) walk ⌝ }
+    ensures { λ r. ⌜ Visited sizes (record { from = now (from .entry); to = now (to .entry); code = now (code .entry); stays = now (stays .entry); codes = now (codes .entry); pair = now (pair .entry); held = now (held .entry); end = now (end .entry) }) (record { turns = now (turns .entry); tail = now (tail .entry); head = now (head .entry); gap = now (gap .entry); rows = now (rows .entry); tags = now (tags .entry); ends = now (ends .entry) }) walk (record { turns = now (turns .exit); tail = now (tail .exit); head = now (head .exit); gap = now (gap .exit); rows = now (rows .exit); tags = now (tags .exit); ends = now (ends .exit) }) r ⌝ }
 {
     let depth = walk.depth;
     let best = walk.best;
@@ -174,7 +174,7 @@ pub fn visit(
         from,
         to,
         code,
-        ticks,
+        stays,
         codes,
         pair,
         held,

@@ -41,7 +41,7 @@ pub fn visit_nodes(
     from: &[u8; 128],
     to: &[u8; 128],
     code: &[u16; 128],
-    ticks: &[u8; 24],
+    stays: &[u8; 24],
     codes: &[u16; 1024],
     pair: &[u16; 276],
     held: &[u32; 276],
@@ -55,8 +55,8 @@ pub fn visit_nodes(
     ends: &mut [u16; 32],
 ) -> Walked
     requires { ⌜ budget .total + budget .left ≤ 100000000 ⌝ }
-    requires { ⌜ Ready sizes (record { from = now from; to = now to; code = now code; ticks = now ticks; codes = now codes; pair = now pair; held = now held; end = now end }) (record { turns = now turns; tail = now tail; head = now head; gap = now gap; rows = now rows; tags = now tags; ends = now ends }) start ⌝ }
-    ensures { λ r. ⌜ Walks sizes (record { from = now (from .entry); to = now (to .entry); code = now (code .entry); ticks = now (ticks .entry); codes = now (codes .entry); pair = now (pair .entry); held = now (held .entry); end = now (end .entry) }) (record { turns = now (turns .entry); tail = now (tail .entry); head = now (head .entry); gap = now (gap .entry); rows = now (rows .entry); tags = now (tags .entry); ends = now (ends .entry) }) start budget (now (turns .exit)) r ⌝ }
+    requires { ⌜ Ready sizes (record { from = now from; to = now to; code = now code; stays = now stays; codes = now codes; pair = now pair; held = now held; end = now end }) (record { turns = now turns; tail = now tail; head = now head; gap = now gap; rows = now rows; tags = now tags; ends = now ends }) start ⌝ }
+    ensures { λ r. ⌜ Walks sizes (record { from = now (from .entry); to = now (to .entry); code = now (code .entry); stays = now (stays .entry); codes = now (codes .entry); pair = now (pair .entry); held = now (held .entry); end = now (end .entry) }) (record { turns = now (turns .entry); tail = now (tail .entry); head = now (head .entry); gap = now (gap .entry); rows = now (rows .entry); tags = now (tags .entry); ends = now (ends .entry) }) start budget (now (turns .exit)) r ⌝ }
 {
     let mut walk = start;
     let mut tally = budget;
@@ -71,7 +71,7 @@ pub fn visit_nodes(
             from,
             to,
             code,
-            ticks,
+            stays,
             codes,
             pair,
             held,

@@ -4,7 +4,7 @@
 use model::wide;
 use model::wide16;
 use starts::latency::larger;
-use starts::latency::ticks_wide;
+use starts::latency::stay_wide;
 ghost use mathlib.Core.Path.{_≡_};
 ghost use Prim.Native.Nat.{_≤_};
 ghost use Rattle.starts.specs.Rounds.{Small};
@@ -12,7 +12,7 @@ ghost use Rattle.starts.specs.Table.{Placed};
 ghost use Rattle.search.specs.Rows.{SmallRing, begun};
 
 // The starts that a node at this depth begins with, given starts that are all 0, and their latency: its parent's raised by its last turn, if its parent's
-// row is there, and else all 0, with the longest job's ticks.
+// row is there, and else all 0, with the longest stay.
 pub fn begin(
     rows: &[[u16; 24]; 32],
     tags: &[u16; 32],
@@ -21,13 +21,13 @@ pub fn begin(
     head: &[u8; 1024],
     gap: &[u16; 1024],
     depth: usize,
-    ticks: &[u8; 24],
+    stays: &[u8; 24],
     longest: u16,
     starts: &mut [u16; 24],
 ) -> u16
     requires { ⌜ (depth ≤ 1024) × Placed (now tail) (now head) (now gap) depth ⌝ }
-    requires { ⌜ Small (now ticks) 16 × SmallRing (now rows) (now ends) ⌝ }
-    ensures { λ r. ⌜ (now (starts .exit), r) ≡ begun (now (rows .entry)) (now (tags .entry)) (now (ends .entry)) (now (tail .entry)) (now (head .entry)) (now (gap .entry)) depth (now (ticks .entry)) longest (now (starts .entry)) ⌝ }
+    requires { ⌜ Small (now stays) 16 × SmallRing (now rows) (now ends) ⌝ }
+    ensures { λ r. ⌜ (now (starts .exit), r) ≡ begun (now (rows .entry)) (now (tags .entry)) (now (ends .entry)) (now (tail .entry)) (now (head .entry)) (now (gap .entry)) depth (now (stays .entry)) longest (now (starts .entry)) ⌝ }
 {
     if depth == 0 {
         return longest;
@@ -44,5 +44,5 @@ pub fn begin(
     let mut new = old;
     new[j] = start;
     *starts = new;
-    larger(ends[place], start + ticks_wide(ticks[j]))
+    larger(ends[place], start + stay_wide(stays[j]))
 }

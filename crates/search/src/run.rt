@@ -16,7 +16,7 @@ use model::wide16;
 use soundness::Examined;
 use soundness::examine;
 use starts::delays::heaviest_of;
-use starts::delays::longest_of;
+use starts::stays::longest_of;
 use starts::turn::store_turn;
 ghost use mathlib.Core.Path.{_≡_};
 ghost use mathlib.Core.Bool.{true, false, not, _||_};
@@ -80,7 +80,7 @@ fn taken_by_pairs(count: usize, budget: u32) -> usize
     count
 }
 
-// A sound record that has not ended, after the budget's nodes. What they work on was examined; the longest job, the largest weight of each pair's delays,
+// A sound record that has not ended, after the budget's nodes. What they work on was examined; the longest stay, the largest weight of each pair's delays,
 // the clashes by pairs and the turns' inequalities are found here.
 fn advance(search: Search, examined: Examined, budget: u32) -> Search
     requires { ⌜ (sound search ≡ true) × (search .ended ≡ false) ⌝ }
@@ -97,7 +97,7 @@ fn advance(search: Search, examined: Examined, budget: u32) -> Search
     let from = delays.from;
     let to = delays.to;
     let weights = delays.code;
-    let ticks = examined.ticks;
+    let stays = examined.stays;
     let depth = examined.depth;
     let mut turns = examined.turns;
     let m = wide(batch.m);
@@ -119,7 +119,7 @@ fn advance(search: Search, examined: Examined, budget: u32) -> Search
         delays: m,
         clashes: clashes.count,
         pairs: pairs,
-        longest: longest_of(&ticks),
+        longest: longest_of(&stays),
     };
     let start = Walk {
         depth: depth,
@@ -138,7 +138,7 @@ fn advance(search: Search, examined: Examined, budget: u32) -> Search
         &from,
         &to,
         &code,
-        &ticks,
+        &stays,
         &codes,
         &pair,
         &held,

@@ -20,7 +20,8 @@ use Rattle.clashes.specs.declared.Clashes.{Clashes}
 use Rattle.clashes.specs.List.{listOf}
 use Rattle.clashes.proofs.ListedLaws.{list-count}
 use Rattle.starts.specs.declared.delays.Reading.{Reading}
-use Rattle.starts.specs.Delays.{delaysPass, ReadsDelays, ticksRead}
+use Rattle.starts.specs.Delays.{delaysPass, ReadsDelays}
+use Rattle.starts.specs.Stays.{staysRead}
 use Rattle.soundness.specs.declared.path.Route.{Route}
 use Rattle.soundness.specs.declared.Examined.{Examined}
 use Rattle.soundness.specs.Limits.{ticksPass, countsPass}
@@ -101,8 +102,8 @@ state-read s r h e =
 module _ (s : Search) (x met y : Bool) (d : Reading) (l : Clashes) (r : Route) (t : List ℕ) where
   -- the batch passes, so the state decides; and the record holds what a run works on
   pub examined : x ≡ countsPass (s .batch) → not x ≡ false → ReadsDelays (s .batch) d → not (d .passed) ≡ false → l ≡ listOf (s .batch) → l .count ≤ 1024
-      → met ≡ delaysMet (s .batch) → not met ≡ false → Reads (s .path) (l .count) r → y ≡ stateSound s → t ≡ ticksRead (s .batch)
-      → Examines s (record { sound = y; clashes = l; delays = d .delays; ticks = t; turns = r .turns; depth = r .depth })
+      → met ≡ delaysMet (s .batch) → not met ≡ false → Reads (s .path) (l .count) r → y ≡ stateSound s → t ≡ staysRead (s .batch)
+      → Examines s (record { sound = y; clashes = l; delays = d .delays; stays = t; turns = r .turns; depth = r .depth })
   unfolding fewClashes
   examined p p′ q q′ c few m m′ h e g =
       let few′ : fewClashes (s .batch) ≡ true = le-leb (length (clashes (s .batch))) 1024 (omega (arith, list-count (s .batch) l c)) in
@@ -113,7 +114,7 @@ module _ (s : Search) (x met y : Bool) (d : Reading) (l : Clashes) (r : Route) (
             record {
               clashes = c;
               delays = q .ready (passes refl q′);
-              ticks = g;
+              stays = g;
               path = h .coded (state-read s r (counted (s .batch) (s .path) l r c h) (sym e ∙ z));
             };
       }

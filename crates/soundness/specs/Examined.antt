@@ -7,7 +7,8 @@ use Rattle.model.specs.Limits.{mostTotal}
 use Rattle.model.specs.Search.{turnsOf}
 use Rattle.model.specs.Sound.{soundPath, soundBest, sound}
 use Rattle.clashes.specs.List.{listOf}
-use Rattle.starts.specs.Delays.{delaysRead, ticksRead}
+use Rattle.starts.specs.Delays.{delaysRead}
+use Rattle.starts.specs.Stays.{staysRead}
 use Rattle.soundness.specs.declared.Examined.{Examined}
 use Rattle.soundness.specs.Path.{Coded}
 
@@ -15,11 +16,11 @@ use Rattle.soundness.specs.Path.{Coded}
 unfoldable pub stateSound : Search → Bool
 stateSound s = soundPath s && leb (s .total) mostTotal && soundBest (s .batch .n) (s .best) (s .starts)
 
--- what a run works on: the clash list, the delays and the ticks as arrays, and the path's turns as numbers
+-- what a run works on: the clash list, the delays and the stays as arrays, and the path's turns as numbers
 pub record Prepared (s : Search) (r : Examined) : Type 0 where
   pub clashes : r .clashes ≡ listOf (s .batch)
   pub delays : r .delays ≡ delaysRead (s .batch)
-  pub ticks : r .ticks ≡ ticksRead (s .batch)
+  pub stays : r .stays ≡ staysRead (s .batch)
   pub path : Coded (turnsOf (s .path)) (r .turns) (r .depth)
 
 -- whether the record is sound, and what a run works on if it is

@@ -1,4 +1,4 @@
-// Whether a record from anywhere is sound, and in the same pass what a run works on: the clash list, the delays and the ticks as
+// Whether a record from anywhere is sound, and in the same pass what a run works on: the clash list, the delays and the stays as
 // arrays, and the path's turns as numbers. Nothing past a limit is read before the limit is known to hold.
 use crate::batch::counts_pass;
 use crate::path::read_path;
@@ -8,8 +8,8 @@ use clashes::list_clashes;
 use model::Search;
 use starts::delays::Delays;
 use starts::delays::read_delays;
-use starts::delays::ticks_of;
 use starts::met::read_delays_met;
+use starts::stays::stays_of;
 ghost use mathlib.Core.Path.{_≡_};
 ghost use mathlib.Core.Bool.{false};
 ghost use Rattle.model.specs.Sound.{sound};
@@ -26,7 +26,7 @@ pub struct Examined {
     pub sound: bool,
     pub clashes: Clashes,
     pub delays: Delays,
-    pub ticks: [u8; 24],
+    pub stays: [u8; 24],
     pub turns: [u16; 1024],
     pub depth: usize,
 }
@@ -46,7 +46,7 @@ fn unsound() -> Examined
             to: [0u8; 128],
             code: [0u16; 128],
         },
-        ticks: [0u8; 24],
+        stays: [0u8; 24],
         turns: [0u16; 1024],
         depth: 0,
     }
@@ -80,7 +80,7 @@ pub fn examine(search: Search) -> Examined
         sound: state_ok(search, route),
         clashes: clashes,
         delays: delays,
-        ticks: ticks_of(batch),
+        stays: stays_of(batch),
         turns: turns,
         depth: route.depth,
     }

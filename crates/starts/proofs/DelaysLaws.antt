@@ -1,20 +1,18 @@
 -- Reading a batch: what a loop over its delays or jobs has tested, coded and copied, and the arrays after it.
 use mathlib.Core.Path.{_≡_, refl, ap, _∙_}
 use mathlib.Core.Bool.{Bool, true, false, _&&_, not}
-use mathlib.Core.List.{List, [], map}
+use mathlib.Core.List.{List, map}
 use Prim.Native.Nat.{ℕ, _+_, _≤_, _<_}
 use native.Mathlib.Nat.{min-le-left}
 use native.Mathlib.Omega.{arith}
 use lib.ListN.{length, take, getD, set, replicate, length-map, length-take, List·getD-map}
 use lib.Seq.{getD-take}
-use Rattle.model.specs.declared.Job.{Job}
 use Rattle.model.specs.declared.Delay.{Delay}
 use Rattle.model.specs.declared.Batch.{Batch}
 use Rattle.model.specs.Common.{count, pad}
-use Rattle.model.specs.Batch.{delayOf, ticks, jobOf, blankJob, blankDelay}
+use Rattle.model.specs.Batch.{delayOf, blankDelay}
 use Rattle.model.specs.Open.{jobsOk, weightOk}
 use Rattle.model.proofs.BoolLaws.{apart, both, passes, fails}
-use Rattle.model.proofs.SeqLaws.{getD-default}
 use Rattle.model.proofs.AllLaws.{allFrom, all-start, all-passed, all-failed, all-ended, all-both}
 use Rattle.model.proofs.LimitLaws.{weight-iff}
 use Rattle.delay_list.specs.declared.Columns.{Columns}
@@ -22,7 +20,7 @@ use Rattle.delay_list.specs.Columns.{columnsOf, delayAt}
 use Rattle.delay_list.proofs.ColumnLaws.{batch-delay-at, batch-delays}
 use Rattle.starts.specs.Code.{Limited, coded}
 use Rattle.starts.specs.Rounds.{filled}
-use Rattle.starts.specs.Delays.{delaysPass, delaysRead, ReadsDelays, ticksRead}
+use Rattle.starts.specs.Delays.{delaysPass, delaysRead, ReadsDelays}
 use Rattle.starts.proofs.FillLaws.{filled-none, filled-more, filled-cong, pad-filled}
 
 -- ---- delays
@@ -92,14 +90,3 @@ module _ (b : Batch) (columns : Columns) (m : ℕ) (same : columns ≡ columnsOf
   pub read-not : (code : List ℕ) → false ≡ allFrom (delayTest (b .n) columns) 0 m
       → ReadsDelays b (record { passed = false; delays = record { from = columns .from; to = columns .to; code = code } })
   read-not code f = record { told = f ∙ delays-start; ready = λ z. apart z }
-
--- ---- ticks
-
--- a job that is read out of the array
-pub ticks-told : (b : Batch) (i : ℕ) → getD (b .jobs) i (record { ticks = 0; masks = [] }) .ticks ≡ ticks b i
-unfolding ticks jobOf blankJob
-ticks-told b i = getD-default (λ (j : Job). j .ticks) (b .jobs) i (record { ticks = 0; masks = [] }) blankJob refl
-
-pub ticks-read : (b : Batch) (l : List ℕ) (n i : ℕ) → n ≡ b .n → i ≤ n → n ≤ i → l ≡ filled (ticks b) 24 i → l ≡ ticksRead b
-unfolding ticksRead
-ticks-read b l n i e h g p = let s : i ≡ b .n = omega arith in rw (p, s)

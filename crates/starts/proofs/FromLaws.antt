@@ -34,11 +34,11 @@ pub data Ending (qs : List Delay) (base : List ℕ) (bound k j : ℕ) (r : Reach
   used : r .found ≡ false → j ≡ k → Changed qs base j → Ending qs base bound k j r
 
 -- what they leave: the starts after j ≤ k rounds, and their latency
-pub record Came (qs : List Delay) (base ticks : List ℕ) (bound k : ℕ) (r : Reached) : Type 0 where
+pub record Came (qs : List Delay) (base stays : List ℕ) (bound k : ℕ) (r : Reached) : Type 0 where
   pub j : ℕ
   pub most : j ≤ k
   pub starts : r .starts ≡ pad 24 0 (rounds qs base j)
-  pub latency : r .latency ≡ latencyOf ticks (pad 24 0 (rounds qs base j)) 24
+  pub latency : r .latency ≡ latencyOf stays (pad 24 0 (rounds qs base j)) 24
   pub ending : Ending qs base bound k j r
 
 module _ (n : ℕ) (few : n ≤ 24) (t : List (List ℕ)) (qs : List Delay) (h : Tabled n t qs) (fours : ℕ) (low : n ≤ 4 * fours) (high : 4 * fours ≤ 24) where
@@ -61,7 +61,7 @@ module _ (n : ℕ) (few : n ≤ 24) (t : List (List ℕ)) (qs : List Delay) (h :
   same-starts a b p q e =
       ext-getD 0 a b (p ∙ sym q) (λ i w. sym (pad-at 24 0 a i) ∙ same-at _ _ 24 e i (omega arith) ∙ pad-at 24 0 b i)
 
-  module _ (base ticks : List ℕ) (len : length base ≡ n) (bound : ℕ) (limit : bound ≤ 23017) (end : ℕ) where
+  module _ (base stays : List ℕ) (len : length base ≡ n) (bound : ℕ) (limit : bound ≤ 23017) (end : ℕ) where
     -- the starts after a rounds, as the code has them
     abbrev at : ℕ → List ℕ
     at a = pad 24 0 (rounds qs base a)
@@ -70,30 +70,30 @@ module _ (n : ℕ) (few : n ≤ 24) (t : List (List ℕ)) (qs : List Delay) (h :
     long a = rounds-length qs base a ∙ len
 
     -- from there on, with k more to go
-    came : (k a : ℕ) → a + k ≡ end → (latency : ℕ) → latency ≡ latencyOf ticks (at a) 24 → latency < bound → Changed qs base a
-        → Came qs base ticks bound end (roundsOf t ticks fours bound (at a) latency k)
+    came : (k a : ℕ) → a + k ≡ end → (latency : ℕ) → latency ≡ latencyOf stays (at a) 24 → latency < bound → Changed qs base a
+        → Came qs base stays bound end (roundsOf t stays fours bound (at a) latency k)
     unfolding roundsOf if_then_else_
     came zero a e latency l b c = record { j = a; most = omega arith; starts = refl; latency = l; ending = used refl (omega arith) c }
     came (suc k) a e latency l b c =
-        rw made (go (sameTo (at a) (at (suc a)) 24) refl (leb bound (raisedBy ticks (at (suc a)) latency)) refl (came k (suc a) (omega arith) _ risen))
+        rw made (go (sameTo (at a) (at (suc a)) 24) refl (leb bound (raisedBy stays (at (suc a)) latency)) refl (came k (suc a) (omega arith) _ risen))
       where
         made : roundOf t (at a) (4 * fours) ≡ at (suc a)
         made =
-            round-from (rounds qs base a) (long a) (below-small ticks (at a) latency bound (pad-length 24 0 (rounds qs base a) (omega (arith, long a))) l b limit)
+            round-from (rounds qs base a) (long a) (below-small stays (at a) latency bound (pad-length 24 0 (rounds qs base a) (omega (arith, long a))) l b limit)
             ∙ ap (pad 24 0) (round-more qs base a)
 
-        risen : raisedBy ticks (at (suc a)) latency ≡ latencyOf ticks (at (suc a)) 24
-        risen = next-latency t fours (at a) (at (suc a)) (sym made) ticks latency _ l refl
+        risen : raisedBy stays (at (suc a)) latency ≡ latencyOf stays (at (suc a)) 24
+        risen = next-latency t fours (at a) (at (suc a)) (sym made) stays latency _ l refl
 
         changed : sameTo (at a) (at (suc a)) 24 ≡ false → Changed qs base (suc a)
         changed g z w =
             let s : sameTo (at a) (at (suc a)) 24 ≡ true = rw w (same-self (at a) 24) in apart (sym g ∙ s)
 
-        go : (p : Bool) → sameTo (at a) (at (suc a)) 24 ≡ p → (s : Bool) → leb bound (raisedBy ticks (at (suc a)) latency) ≡ s
-            → (raisedBy ticks (at (suc a)) latency < bound → Changed qs base (suc a) → Came qs base ticks bound end (roundsOf t ticks fours bound (at (suc a)) (raisedBy ticks (at (suc a)) latency) k))
-            → Came qs base ticks bound end
+        go : (p : Bool) → sameTo (at a) (at (suc a)) 24 ≡ p → (s : Bool) → leb bound (raisedBy stays (at (suc a)) latency) ≡ s
+            → (raisedBy stays (at (suc a)) latency < bound → Changed qs base (suc a) → Came qs base stays bound end (roundsOf t stays fours bound (at (suc a)) (raisedBy stays (at (suc a)) latency) k))
+            → Came qs base stays bound end
             (if p then record { starts = at a; latency = latency; found = true }
-            else (if s then record { starts = at (suc a); latency = raisedBy ticks (at (suc a)) latency; found = false } else roundsOf t ticks fours bound (at (suc a)) (raisedBy ticks (at (suc a)) latency) k))
+            else (if s then record { starts = at (suc a); latency = raisedBy stays (at (suc a)) latency; found = false } else roundsOf t stays fours bound (at (suc a)) (raisedBy stays (at (suc a)) latency) k))
         go true g s h rec =
             record { j = a; most = omega arith; starts = refl; latency = l; ending = settled refl (sym (same-starts _ _ (long a) (long (suc a)) g)) b }
         go false g true h rec =
@@ -101,6 +101,6 @@ module _ (n : ℕ) (few : n ≤ 24) (t : List (List ℕ)) (qs : List Delay) (h :
         go false g false h rec = rec (leb-false bound _ h) (changed g)
 
     -- from the base
-    pub rounds-came : (latency : ℕ) → latency ≡ latencyOf ticks (pad 24 0 base) 24 → latency < bound → Came qs base ticks bound end (roundsOf t ticks fours bound (pad 24 0 base) latency end)
+    pub rounds-came : (latency : ℕ) → latency ≡ latencyOf stays (pad 24 0 base) 24 → latency < bound → Came qs base stays bound end (roundsOf t stays fours bound (pad 24 0 base) latency end)
     unfolding rounds
     rounds-came latency l b = came end 0 (omega arith) latency l b (λ z. absurd (omega arith))

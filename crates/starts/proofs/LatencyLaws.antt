@@ -9,11 +9,12 @@ use lib.ListN.{getD, set, length, replicate, List·getD-eq-default}
 use lib.Seq.{getD-set-same, getD-set-other}
 use Rattle.model.specs.declared.Batch.{Batch}
 use Rattle.model.specs.Common.{count, pad}
-use Rattle.model.specs.Batch.{ticks}
-use Rattle.model.specs.Plan.{start, finish, latency}
+use Rattle.model.specs.Batch.{jobOf, ticks}
+use Rattle.model.specs.Plan.{start, stay, finish, latency}
 use Rattle.starts.specs.Rounds.{Small}
-use Rattle.starts.specs.Delays.{ticksRead}
+use Rattle.starts.specs.Stays.{staysRead}
 use Rattle.starts.specs.Latency.{latencyOf, longestOf}
+use Rattle.model.proofs.FinishLaws.{stay-short}
 use Rattle.model.proofs.SeqLaws.{listed-snoc, listed-cong, blanks-at, pad-at}
 use Rattle.starts.proofs.FillLaws.{filled-at, filled-past}
 
@@ -75,7 +76,7 @@ module _ (ps ss : List ℕ) (j v : ℕ) (inside : j < length ss) (up : getD ss j
       go (yes e) rec = rw (← e) (omega (arith, latency-before j (omega arith), getD-set-same ss j v 0 inside))
       go (no e) rec = omega (arith, rec (omega arith), getD-set-other ss j k v 0 (λ g. e (sym g)))
 
--- without ticks it is 0
+-- without stays it is 0
 pub longest-none : 0 ≡ longestOf (replicate 24 0)
 unfolding longestOf latencyOf
 longest-none = refl
@@ -86,29 +87,29 @@ most-snoc : (xs : List ℕ) (x : ℕ) → foldr max 0 (xs ++ (x ∷ [])) ≡ max
 most-snoc [] x = omega arith
 most-snoc (y ∷ xs) x = omega (arith, most-snoc xs x)
 
--- p of job i, read once
-pub ticks-at : (b : Batch) → b .n ≤ 24 → (i : ℕ) → i < b .n → getD (ticksRead b) i 0 ≡ ticks b i
-unfolding ticksRead
-ticks-at b few i p = filled-at (ticks b) 24 (b .n) i few p
+-- the stay of job i, worked out once
+pub stay-at : (b : Batch) → b .n ≤ 24 → (i : ℕ) → i < b .n → getD (staysRead b) i 0 ≡ stay (jobOf b i)
+unfolding staysRead
+stay-at b few i p = filled-at (λ i. stay (jobOf b i)) 24 (b .n) i few p
 
-ticks-past : (b : Batch) (i : ℕ) → b .n ≤ i → getD (ticksRead b) i 0 ≡ 0
-unfolding ticksRead
-ticks-past b i p = filled-past (ticks b) 24 (b .n) i p
+stay-past : (b : Batch) (i : ℕ) → b .n ≤ i → getD (staysRead b) i 0 ≡ 0
+unfolding staysRead
+stay-past b i p = filled-past (λ i. stay (jobOf b i)) 24 (b .n) i p
 
 -- jobs of at most 16 ticks
-pub ticks-small : (b : Batch) → b .n ≤ 24 → ((i : ℕ) → i < b .n → ticks b i ≤ 16) → Small (ticksRead b) 16
-ticks-small b few h = record { each = λ i. go i (decLt i (b .n)) }
+pub stays-small : (b : Batch) → b .n ≤ 24 → ((i : ℕ) → i < b .n → ticks b i ≤ 16) → Small (staysRead b) 16
+stays-small b few h = record { each = λ i. go i (decLt i (b .n)) }
   where
-    go : (i : ℕ) → Dec (i < b .n) → getD (ticksRead b) i 0 ≤ 16
-    go i (yes p) = omega (arith, ticks-at b few i p, h i p)
-    go i (no p) = omega (arith, ticks-past b i (omega arith))
+    go : (i : ℕ) → Dec (i < b .n) → getD (staysRead b) i 0 ≤ 16
+    go i (yes p) = omega (arith, stay-at b few i p, stay-short b i, h i p)
+    go i (no p) = omega (arith, stay-past b i (omega arith))
 
 module _ (b : Batch) (few : b .n ≤ 24) (ss : List ℕ) where
-  latency-to : (ts : List ℕ) → ((i : ℕ) → i < b .n → getD ss i 0 ≡ getD ts i 0) → (k : ℕ) → k ≤ b .n → latencyOf (ticksRead b) ss k ≡ foldr max 0 (map (λ i. finish b i (start ts i)) (count 0 k))
+  latency-to : (ts : List ℕ) → ((i : ℕ) → i < b .n → getD ss i 0 ≡ getD ts i 0) → (k : ℕ) → k ≤ b .n → latencyOf (staysRead b) ss k ≡ foldr max 0 (map (λ i. finish b i (start ts i)) (count 0 k))
   unfolding latencyOf finish start count
   latency-to ts h zero p = refl
   latency-to ts h (suc k) p =
-      let q : getD ss k 0 + getD (ticksRead b) k 0 ≡ finish b k (start ts k) = omega (arith, h k (omega arith), ticks-at b few k (omega arith)) in
+      let q : getD ss k 0 + getD (staysRead b) k 0 ≡ finish b k (start ts k) = omega (arith, h k (omega arith), stay-at b few k (omega arith)) in
       omega (
         arith,
         latency-to ts h k (omega arith),
@@ -117,25 +118,25 @@ module _ (b : Batch) (few : b .n ≤ 24) (ss : List ℕ) where
       )
 
   -- the latency of any plan that has these starts
-  pub latency-law : (ts : List ℕ) → ((i : ℕ) → i < b .n → getD ss i 0 ≡ getD ts i 0) → latencyOf (ticksRead b) ss (b .n) ≡ latency b ts
+  pub latency-law : (ts : List ℕ) → ((i : ℕ) → i < b .n → getD ss i 0 ≡ getD ts i 0) → latencyOf (staysRead b) ss (b .n) ≡ latency b ts
   unfolding latency
   latency-law ts h = latency-to ts h (b .n) (omega arith)
 
 module _ (b : Batch) (few : b .n ≤ 24) where
   -- places past n add nothing, so that all 24 may be taken
-  latency-whole : (ss ts : List ℕ) → ((i : ℕ) → getD ss i 0 ≡ getD ts i 0) → length ts ≤ b .n → latencyOf (ticksRead b) ss 24 ≡ latency b ts
+  latency-whole : (ss ts : List ℕ) → ((i : ℕ) → getD ss i 0 ≡ getD ts i 0) → length ts ≤ b .n → latencyOf (staysRead b) ss 24 ≡ latency b ts
   latency-whole ss ts h l =
       let e : 24 ≡ 24 - b .n + b .n = omega arith in
-      ap (latencyOf (ticksRead b) ss) e
-      ∙ latency-rest (ticksRead b) ss (b .n) (λ i p. omega (arith, ticks-past b i p, h i, List·getD-eq-default ts 0 {n = i} (omega arith))) (24 - b .n)
+      ap (latencyOf (staysRead b) ss) e
+      ∙ latency-rest (staysRead b) ss (b .n) (λ i p. omega (arith, stay-past b i p, h i, List·getD-eq-default ts 0 {n = i} (omega arith))) (24 - b .n)
       ∙ latency-law b few ss ts (λ i p. h i)
 
-  pub latency-padded : (ts : List ℕ) → length ts ≡ b .n → latencyOf (ticksRead b) (pad 24 0 ts) 24 ≡ latency b ts
+  pub latency-padded : (ts : List ℕ) → length ts ≡ b .n → latencyOf (staysRead b) (pad 24 0 ts) 24 ≡ latency b ts
   latency-padded ts l = latency-whole (pad 24 0 ts) ts (pad-at 24 0 ts) (omega arith)
 
-  -- the latency of starts that are all 0 is the longest job's ticks
-  pub longest-is : longestOf (ticksRead b) ≡ foldr max 0 (map (ticks b) (count 0 (b .n)))
+  -- the latency of starts that are all 0 is the longest stay
+  pub longest-is : longestOf (staysRead b) ≡ foldr max 0 (map (λ i. stay (jobOf b i)) (count 0 (b .n)))
   unfolding longestOf latency finish start
   longest-is =
       latency-whole (replicate 24 0) [] (λ i. blanks-at {A = ℕ} 24 i 0) (omega arith)
-      ∙ ap (foldr max 0) (listed-cong (λ i. finish b i (start [] i)) (ticks b) (b .n) (λ i p. omega arith))
+      ∙ ap (foldr max 0) (listed-cong (λ i. finish b i (start [] i)) (λ i. stay (jobOf b i)) (b .n) (λ i p. omega arith))

@@ -26,7 +26,8 @@ use Rattle.model.proofs.UnderLaws.{Under, under-rounds, round-more, settled-lea
 use Rattle.starts.specs.Code.{placeCode}
 use Rattle.starts.specs.Table.{withPut, withStored, emptyTable}
 use Rattle.starts.specs.Rounds.{Reached, roundsOf}
-use Rattle.starts.specs.Delays.{heaviestOf, ticksRead}
+use Rattle.starts.specs.Delays.{heaviestOf}
+use Rattle.starts.specs.Stays.{staysRead}
 use Rattle.starts.specs.Latency.{latencyOf}
 use Rattle.starts.specs.Least.{Holds}
 use Rattle.starts.proofs.PlaceLaws.{codeAt, Tabled}
@@ -85,13 +86,13 @@ inside : (n : ℕ) (t : List (List ℕ)) (qs : List Delay) → Tabled n t qs →
 unfolding Inside
 inside n t qs h q m = (h .fits q m .from, h .fits q m .to)
 
-module _ (n : ℕ) (few : n ≤ 24) (t : List (List ℕ)) (qs : List Delay) (h : Tabled n t qs) (base ticks : List ℕ) (len : length base ≡ n) (bound : ℕ) (limit : bound ≤ 23017) (latency : ℕ) (l : latency ≡ latencyOf ticks (pad 24 0 base) 24) (b : latency < bound) where
+module _ (n : ℕ) (few : n ≤ 24) (t : List (List ℕ)) (qs : List Delay) (h : Tabled n t qs) (base stays : List ℕ) (len : length base ≡ n) (bound : ℕ) (limit : bound ≤ 23017) (latency : ℕ) (l : latency ≡ latencyOf stays (pad 24 0 base) 24) (b : latency < bound) where
   -- what at most k rounds leave
   abbrev pub left : ℕ → Reached
-  left k = roundsOf t ticks ((n + 3) / 4) bound (pad 24 0 base) latency k
+  left k = roundsOf t stays ((n + 3) / 4) bound (pad 24 0 base) latency k
 
-  pub came : (k : ℕ) → Came qs base ticks bound k (left k)
-  came k = rounds-came n few t qs h _ (fours-low n) (fours-high n few) base ticks len bound limit k latency l b
+  pub came : (k : ℕ) → Came qs base stays bound k (left k)
+  came k = rounds-came n few t qs h _ (fours-low n) (fours-high n few) base stays len bound limit k latency l b
 
   -- where a round changed nothing, the latency is below the bound
   pub found-below : left n .found ≡ true → left n .latency < bound
@@ -131,8 +132,8 @@ module _ (n : ℕ) (few : n ≤ 24) (t : List (List ℕ)) (qs : List Delay) (h :
 -- or not there are least starts in the end. k rounds are taken, fewer only where one changed nothing or the latency came to the bound
 pub every-round : (b : Batch) (cs : List Clash) (ts : List Turn) (m depth : ℕ) (froms tos codes tails heads gaps : List ℕ) → b .n ≤ 24 → m ≤ 128 → m ≡ length (delaysOf b) → depth ≡ length ts
     → Holds (b .n) (delaysOf b) froms tos codes → Holds (b .n) (map (turned cs) ts) tails heads gaps
-    → (base : List ℕ) → length base ≡ b .n → (bound first : ℕ) → bound ≤ 23017 → first ≡ latencyOf (ticksRead b) (pad 24 0 base) 24 → first < bound → (k : ℕ) (r : Reached)
-    → r ≡ roundsOf (pathTable m froms tos codes tails heads gaps depth) (ticksRead b) ((b .n + 3) / 4) bound (pad 24 0 base) first k
+    → (base : List ℕ) → length base ≡ b .n → (bound first : ℕ) → bound ≤ 23017 → first ≡ latencyOf (staysRead b) (pad 24 0 base) 24 → first < bound → (k : ℕ) (r : Reached)
+    → r ≡ roundsOf (pathTable m froms tos codes tails heads gaps depth) (staysRead b) ((b .n + 3) / 4) bound (pad 24 0 base) first k
     → (j : ℕ) × (r .starts ≡ pad 24 0 (rounds (inequalities cs b ts) base j)) × (r .latency ≡ latency b (rounds (inequalities cs b ts) base j))
     × ((j ≡ k) ⊎ ((j ≤ k) × (((r .found ≡ true) × (rounds (inequalities cs b ts) base (suc j) ≡ rounds (inequalities cs b ts) base j)) ⊎ (bound ≤ r .latency))))
 every-round b cs ts m depth froms tos codes tails heads gaps few most e d hd ht base len bound first limit l p k r g =
@@ -142,13 +143,13 @@ every-round b cs ts m depth froms tos codes tails heads gaps few most e d hd ht 
     qs = inequalities cs b ts
 
     reached : Reached
-    reached = roundsOf (pathTable m froms tos codes tails heads gaps depth) (ticksRead b) ((b .n + 3) / 4) bound (pad 24 0 base) first k
+    reached = roundsOf (pathTable m froms tos codes tails heads gaps depth) (staysRead b) ((b .n + 3) / 4) bound (pad 24 0 base) first k
 
     Told : Reached → Type 0
     Told r = (j : ℕ) × (r .starts ≡ pad 24 0 (rounds qs base j)) × (r .latency ≡ latency b (rounds qs base j)) × ((j ≡ k) ⊎ ((j ≤ k) × (((r .found ≡ true) × (rounds qs base (suc j) ≡ rounds qs base j)) ⊎ (bound ≤ r .latency))))
 
-    c : Came qs base (ticksRead b) bound k reached
-    c = came (b .n) few _ qs (path-tabled b cs ts m depth froms tos codes tails heads gaps few most e d hd ht) base (ticksRead b) len bound limit first l p k
+    c : Came qs base (staysRead b) bound k reached
+    c = came (b .n) few _ qs (path-tabled b cs ts m depth froms tos codes tails heads gaps few most e d hd ht) base (staysRead b) len bound limit first l p k
 
     go : Ending qs base bound k (c .j) reached → (c .j ≡ k) ⊎ ((c .j ≤ k) × (((reached .found ≡ true) × (rounds qs base (suc (c .j)) ≡ rounds qs base (c .j))) ⊎ (bound ≤ reached .latency)))
     go (settled f e _) = inr (c .most, inl (f, e))

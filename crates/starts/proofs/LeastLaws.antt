@@ -12,6 +12,6 @@ module _ (m depth : ℕ) (froms tos codes tails heads gaps : List ℕ) (t u : Li
   pub table-small : Placed froms tos codes m → Placed tails heads gaps depth → SmallRows u
   table-small f g = rw (q, p) (puts-small tails heads gaps _ depth g (stores-small froms tos codes emptyTable m f empty-small m (omega arith)) depth (omega arith))
 
-  pub least-is : (n bound latency : ℕ) (ticks starts : List ℕ) (r : Reached) → r ≡ roundsOf u ticks ((n + 3) / 4) bound starts latency n → r ≡ leastOf n m froms tos codes tails heads gaps depth ticks bound starts latency
+  pub least-is : (n bound latency : ℕ) (stays starts : List ℕ) (r : Reached) → r ≡ roundsOf u stays ((n + 3) / 4) bound starts latency n → r ≡ leastOf n m froms tos codes tails heads gaps depth stays bound starts latency
   unfolding leastOf
-  least-is n bound latency ticks starts r e = rw (e, q, p)
+  least-is n bound latency stays starts r e = rw (e, q, p)

@@ -9,6 +9,7 @@ pub mod HeldLaws
 pub mod RaisedLaws
 pub mod FromLaws
 pub mod DelaysLaws
+pub mod StaysLaws
 pub mod LeastLaws
 pub mod TurnLaws
 pub mod Law

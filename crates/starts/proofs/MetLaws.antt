@@ -53,7 +53,7 @@ module _ (b : Batch) (s : DelaysSound b) (d : Delays) (e : d ≡ delaysRead b) (
     tabled : Tabled (b .n) t (delaysOf b)
     tabled = rw (q, all-of) (held-tabled (b .n) (s .most) (delaysOf b) (d .from) (d .to) (d .code) held emptyTable _ (empty-tabled (b .n)))
 
-    -- without ticks the latency is the latest start, which is 0 at first
+    -- without stays the latency is the latest start, which is 0 at first
     abbrev none-yet : List ℕ
     none-yet = replicate 24 0
 

@@ -134,18 +134,18 @@ same-at a b (suc k) e i h =
 -- ---- k rounds, as the code has them
 
 -- a round lowers no start, and so no latency
-pub latency-rises : (table : List (List ℕ)) (ticks old : List ℕ) (k : ℕ) → latencyOf ticks old 24 ≤ latencyOf ticks (roundOf table old k) 24
+pub latency-rises : (table : List (List ℕ)) (stays old : List ℕ) (k : ℕ) → latencyOf stays old 24 ≤ latencyOf stays (roundOf table old k) 24
 unfolding roundOf startOf
-latency-rises table ticks old k =
-    latency-mono ticks old _ 24
+latency-rises table stays old k =
+    latency-mono stays old _ 24
     (λ j h. omega (arith, filled-at (λ j. largest table old j (getD old j 0 + 30000) k - 30000) 24 24 j (omega arith) h, largest-first table old j (getD old j 0 + 30000) k))
 
 -- starts whose latency is below a bound are small
-pub below-small : (ticks starts : List ℕ) (latency bound : ℕ) → length starts ≡ 24 → latency ≡ latencyOf ticks starts 24 → latency < bound → bound ≤ 23017 → Small starts 23016
-below-small ticks starts latency bound len l h b = record { each = λ i. go i (decLt i 24) }
+pub below-small : (stays starts : List ℕ) (latency bound : ℕ) → length starts ≡ 24 → latency ≡ latencyOf stays starts 24 → latency < bound → bound ≤ 23017 → Small starts 23016
+below-small stays starts latency bound len l h b = record { each = λ i. go i (decLt i 24) }
   where
     go : (i : ℕ) → Dec (i < 24) → getD starts i 0 ≤ 23016
-    go i (yes p) = omega (arith, latency-at ticks starts 24 i p)
+    go i (yes p) = omega (arith, latency-at stays starts 24 i p)
     go i (no p) = omega (arith, List·getD-eq-default starts 0 {n = i} (omega arith))
 
 module _ (table : List (List ℕ)) (fours : ℕ) where
@@ -158,29 +158,29 @@ module _ (table : List (List ℕ)) (fours : ℕ) where
     pub next-small : SmallRows table → Small old 23016 → Small new 24016
     next-small p q = rw e (round-small table old (4 * fours) 23016 p q)
 
-    pub next-latency : (ticks : List ℕ) (latency risen : ℕ) → latency ≡ latencyOf ticks old 24 → risen ≡ raisedBy ticks new latency → risen ≡ latencyOf ticks new 24
+    pub next-latency : (stays : List ℕ) (latency risen : ℕ) → latency ≡ latencyOf stays old 24 → risen ≡ raisedBy stays new latency → risen ≡ latencyOf stays new 24
     unfolding raisedBy
-    next-latency ticks latency risen l h = h ∙ rw (l, e) (omega (arith, latency-rises table ticks old (4 * fours)))
+    next-latency stays latency risen l h = h ∙ rw (l, e) (omega (arith, latency-rises table stays old (4 * fours)))
 
   -- the cases of the code; the new starts, the test and the risen latency are results of calls
-  module _ (ticks old : List ℕ) (bound latency : ℕ) where
-    pub rounds-none : (k : ℕ) → k ≡ 0 → record { starts = old; latency = latency; found = false } ≡ roundsOf table ticks fours bound old latency k
+  module _ (stays old : List ℕ) (bound latency : ℕ) where
+    pub rounds-none : (k : ℕ) → k ≡ 0 → record { starts = old; latency = latency; found = false } ≡ roundsOf table stays fours bound old latency k
     unfolding roundsOf
     rounds-none k h = rw h
 
     module _ (new : List ℕ) (r : Bool) (e : new ≡ roundOf table old (4 * fours)) (s : r ≡ sameTo old new 24) where
-      pub rounds-end : (k : ℕ) → (k ≡ 0 → ⊥) → r ≡ true → record { starts = old; latency = latency; found = true } ≡ roundsOf table ticks fours bound old latency k
+      pub rounds-end : (k : ℕ) → (k ≡ 0 → ⊥) → r ≡ true → record { starts = old; latency = latency; found = true } ≡ roundsOf table stays fours bound old latency k
       unfolding roundsOf if_then_else_
       rounds-end zero more p = absurd (more refl)
       rounds-end (suc k) more p = rw (← e, ← s, p)
 
-      module _ (risen : ℕ) (g : risen ≡ raisedBy ticks new latency) (p : r ≡ false) where
-        pub rounds-stop : (k : ℕ) → (k ≡ 0 → ⊥) → bound ≤ risen → record { starts = new; latency = risen; found = false } ≡ roundsOf table ticks fours bound old latency k
+      module _ (risen : ℕ) (g : risen ≡ raisedBy stays new latency) (p : r ≡ false) where
+        pub rounds-stop : (k : ℕ) → (k ≡ 0 → ⊥) → bound ≤ risen → record { starts = new; latency = risen; found = false } ≡ roundsOf table stays fours bound old latency k
         unfolding roundsOf if_then_else_
         rounds-stop zero more h = absurd (more refl)
         rounds-stop (suc k) more h = rw (← e, ← s, p, ← g, le-leb bound risen h)
 
-        pub rounds-on : (k : ℕ) → (k ≡ 0 → ⊥) → risen < bound → (x : Reached) → x ≡ roundsOf table ticks fours bound new risen (k - 1) → x ≡ roundsOf table ticks fours bound old latency k
+        pub rounds-on : (k : ℕ) → (k ≡ 0 → ⊥) → risen < bound → (x : Reached) → x ≡ roundsOf table stays fours bound new risen (k - 1) → x ≡ roundsOf table stays fours bound old latency k
         unfolding roundsOf if_then_else_
         rounds-on zero more h x q = absurd (more refl)
         rounds-on (suc k) more h x q = q ∙ rw (← e, ← s, p, ← g, lt-leb bound risen h, sub-one (suc k))

@@ -1,4 +1,4 @@
--- A batch's delays as parallel arrays of 128 places, and its jobs' ticks as an array of 24.
+-- A batch's delays as parallel arrays of 128 places.
 use Prim.Native.Nat.{ℕ, _≤_}
 use mathlib.Core.Path.{_≡_}
 use mathlib.Core.Bool.{Bool, true, _&&_}
@@ -6,7 +6,7 @@ use mathlib.Core.List.{List, []}
 use lib.ListN.{getD}
 use Rattle.model.specs.declared.Batch.{Batch}
 use Rattle.model.specs.Common.{all}
-use Rattle.model.specs.Batch.{delayOf, delaysOf, ticks}
+use Rattle.model.specs.Batch.{delayOf, delaysOf}
 use Rattle.model.specs.Open.{jobsOk, weightOk}
 use Rattle.starts.specs.declared.delays.Delays.{Delays}
 use Rattle.starts.specs.declared.delays.Reading.{Reading}
@@ -43,7 +43,3 @@ delaysPass b = all (jobsOk (b .n)) (delaysOf b) && all weightOk (delaysOf b)
 pub record ReadsDelays (b : Batch) (r : Reading) : Type 0 where
   pub told : r .passed ≡ delaysPass b
   pub ready : r .passed ≡ true → r .delays ≡ delaysRead b
-
--- the ticks of the first n jobs, and 0 past them
-unfoldable pub ticksRead : Batch → List ℕ
-ticksRead b = filled (ticks b) 24 (b .n)

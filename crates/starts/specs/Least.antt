@@ -11,8 +11,8 @@ use Rattle.starts.specs.Table.{withPut, withStored, emptyTable}
 
 -- rounds over the table of the first m delays and the first depth turns, over n jobs
 unfoldable pub leastOf : ℕ → ℕ → List ℕ → List ℕ → List ℕ → List ℕ → List ℕ → List ℕ → ℕ → List ℕ → ℕ → List ℕ → ℕ → Reached
-leastOf n m from to code tail head gap depth ticks bound starts latency =
-    roundsOf (withPut tail head gap (withStored from to code emptyTable m) depth) ticks ((n + 3) / 4) bound starts latency n
+leastOf n m from to code tail head gap depth stays bound starts latency =
+    roundsOf (withPut tail head gap (withStored from to code emptyTable m) depth) stays ((n + 3) / 4) bound starts latency n
 
 -- the arrays hold these inequalities, which are between n jobs and within their limits
 pub record Holds (n : ℕ) (qs : List Delay) (froms tos codes : List ℕ) : Type 0 where

@@ -5,4 +5,5 @@ pub mod Table
 pub mod Turn
 pub mod Delays
 pub mod Latency
+pub mod Stays
 pub mod Least

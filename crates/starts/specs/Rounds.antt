@@ -73,9 +73,9 @@ pub record Reached : Type 0 where
 
 -- each round's starts raise the latency. A round that changes nothing ends them, and so does a latency at or above the bound
 unfoldable pub roundsOf : List (List ℕ) → List ℕ → ℕ → ℕ → List ℕ → ℕ → ℕ → Reached
-roundsOf table ticks fours bound old latency zero = record { starts = old; latency = latency; found = false }
-roundsOf table ticks fours bound old latency (suc k) =
+roundsOf table stays fours bound old latency zero = record { starts = old; latency = latency; found = false }
+roundsOf table stays fours bound old latency (suc k) =
     let new = roundOf table old (4 * fours) in
-    let risen = raisedBy ticks new latency in
+    let risen = raisedBy stays new latency in
     if sameTo old new 24 then record { starts = old; latency = latency; found = true }
-    else (if leb bound risen then record { starts = new; latency = risen; found = false } else roundsOf table ticks fours bound new risen k)
+    else (if leb bound risen then record { starts = new; latency = risen; found = false } else roundsOf table stays fours bound new risen k)

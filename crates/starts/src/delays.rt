@@ -1,5 +1,4 @@
-// A batch's delays as plain parallel arrays, its jobs' ticks and the longest of these: what a run works out once.
-use crate::latency::raised_latency;
+// A batch's delays as plain parallel arrays: what a run works out once.
 use crate::table::put_delays;
 use delay_array::array_columns;
 use delay_list::delay_at;
@@ -10,9 +9,7 @@ ghost use mathlib.Core.Path.{_≡_};
 ghost use Prim.Native.Nat.{_≤_};
 ghost use Rattle.starts.specs.Code.{Limited, coded};
 ghost use Rattle.starts.specs.Table.{Placed};
-ghost use Rattle.starts.specs.Rounds.{Small};
-ghost use Rattle.starts.specs.Latency.{longestOf};
-ghost use Rattle.starts.specs.Delays.{ReadsDelays, heaviestOf, ticksRead};
+ghost use Rattle.starts.specs.Delays.{ReadsDelays, heaviestOf};
 
 // The first m places count: from, to, and the weight plus 30,000. The others are 0.
 pub struct Delays {
@@ -84,28 +81,4 @@ pub fn heaviest_of(m: usize, from: &[u8; 128], to: &[u8; 128], code: &[u16; 128]
         k = k + 1;
     }
     heaviest
-}
-
-// The ticks of each of the first n jobs, and 0 in the places past them.
-pub fn ticks_of(batch: Batch) -> [u8; 24]
-    requires { ⌜ batch .n ≤ 24 ⌝ }
-    ensures { λ r. ⌜ r ≡ ticksRead batch ⌝ }
-{
-    let mut ticks = [0u8; 24];
-    let n = wide(batch.n);
-    let mut i: usize = 0;
-    while i < n {
-        let job = batch.jobs[i];
-        ticks[i] = job.ticks;
-        i = i + 1;
-    }
-    ticks
-}
-
-// The ticks of the longest job: the latency of starts that are all 0.
-pub fn longest_of(ticks: &[u8; 24]) -> u16
-    requires { ⌜ Small (now ticks) 16 ⌝ }
-    ensures { λ r. ⌜ r ≡ longestOf (now (ticks .entry)) ⌝ }
-{
-    raised_latency(0, ticks, &[0u16; 24])
 }

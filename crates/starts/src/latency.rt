@@ -1,4 +1,4 @@
-// The latency of starts, the largest t_i + p_i, as a value that starts raise. Past n both arrays hold 0, so that all 24 places may be taken: a
+// The latency of starts, the largest sum of a start and a stay, as a value that starts raise. Past n both arrays hold 0, so that all 24 places may be taken: a
 // loop of known length is one that the compiler takes a whole row at a time.
 ghost use mathlib.Core.Path.{_≡_};
 ghost use Prim.Native.Nat.{max};
@@ -14,21 +14,21 @@ pub fn larger(a: u16, b: u16) -> u16
     a
 }
 
-pub fn ticks_wide(x: u8) -> u16
+pub fn stay_wide(x: u8) -> u16
     ensures { λ r. ⌜ r ≡ x ⌝ }
 {
     x as u16
 }
 
 // The largest of a latency and the ends of these starts.
-pub fn raised_latency(latency: u16, ticks: &[u8; 24], starts: &[u16; 24]) -> u16
-    requires { ⌜ Small (now ticks) 16 × Small (now starts) 24016 ⌝ }
-    ensures { λ r. ⌜ r ≡ raisedBy (now (ticks .entry)) (now (starts .entry)) latency ⌝ }
+pub fn raised_latency(latency: u16, stays: &[u8; 24], starts: &[u16; 24]) -> u16
+    requires { ⌜ Small (now stays) 16 × Small (now starts) 24016 ⌝ }
+    ensures { λ r. ⌜ r ≡ raisedBy (now (stays .entry)) (now (starts .entry)) latency ⌝ }
 {
     let mut latest = latency;
     let mut i: usize = 0;
     while i < 24 {
-        latest = larger(latest, starts[i] + ticks_wide(ticks[i]));
+        latest = larger(latest, starts[i] + stay_wide(stays[i]));
         i = i + 1;
     }
     latest

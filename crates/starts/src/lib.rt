@@ -15,6 +15,7 @@ pub mod delays;
 pub mod latency;
 pub mod met;
 mod rounds;
+pub mod stays;
 mod table;
 pub mod turn;
 
@@ -31,7 +32,7 @@ pub fn least_starts(
     head: &[u8; 1024],
     gap: &[u16; 1024],
     depth: usize,
-    ticks: &[u8; 24],
+    stays: &[u8; 24],
     bound: u16,
     starts: &mut [u16; 24],
     latency: &mut u16,
@@ -39,12 +40,12 @@ pub fn least_starts(
     requires { ⌜ (n ≤ 24) × ((m ≤ 128) × (depth ≤ 1024)) ⌝ }
     requires { ⌜ Placed (now from) (now to) (now code) m ⌝ }
     requires { ⌜ Placed (now tail) (now head) (now gap) depth ⌝ }
-    requires { ⌜ Small (now ticks) 16 × (length (now starts) ≡ 24) ⌝ }
-    requires { ⌜ (now latency ≡ latencyOf (now ticks) (now starts) 24) × ((now latency < bound) × (bound ≤ 23017)) ⌝ }
-    ensures { λ r. ⌜ record { starts = now (starts .exit); latency = now (latency .exit); found = r } ≡ leastOf n m (now (from .entry)) (now (to .entry)) (now (code .entry)) (now (tail .entry)) (now (head .entry)) (now (gap .entry)) depth (now (ticks .entry)) bound (now (starts .entry)) (now (latency .entry)) ⌝ }
+    requires { ⌜ Small (now stays) 16 × (length (now starts) ≡ 24) ⌝ }
+    requires { ⌜ (now latency ≡ latencyOf (now stays) (now starts) 24) × ((now latency < bound) × (bound ≤ 23017)) ⌝ }
+    ensures { λ r. ⌜ record { starts = now (starts .exit); latency = now (latency .exit); found = r } ≡ leastOf n m (now (from .entry)) (now (to .entry)) (now (code .entry)) (now (tail .entry)) (now (head .entry)) (now (gap .entry)) depth (now (stays .entry)) bound (now (starts .entry)) (now (latency .entry)) ⌝ }
 {
     let mut table = [[0u16; 24]; 24];
     store_delays(&mut table, m, from, to, code);
     put_turns(&mut table, depth, tail, head, gap);
-    rounds(&table, ticks, starts, latency, bound, (n + 3) / 4, n)
+    rounds(&table, stays, starts, latency, bound, (n + 3) / 4, n)
 }

@@ -9,7 +9,7 @@ ghost use mathlib.Core.Path.{_≡_};
 ghost use Rattle.model.specs.Open.{delaysMet};
 ghost use Rattle.starts.specs.Delays.{DelaysSound, delaysRead};
 
-// With the delays as they were read from the batch. Only whether there are least starts is asked, so the jobs may have no ticks.
+// With the delays as they were read from the batch. Only whether there are least starts is asked, so no job need stay.
 pub fn read_delays_met(batch: Batch, delays: Delays) -> bool
     requires { ⌜ DelaysSound batch ⌝ }
     requires { ⌜ delays ≡ delaysRead batch ⌝ }

@@ -98,7 +98,7 @@ fn same(a: &[u16; 24], b: &[u16; 24]) -> bool
 // nothing ends them, since no later one would change anything; so does a latency at or above the bound. While they go on, no start is above 23,016.
 pub fn rounds(
     table: &[[u16; 24]; 24],
-    ticks: &[u8; 24],
+    stays: &[u8; 24],
     starts: &mut [u16; 24],
     latency: &mut u16,
     bound: u16,
@@ -106,10 +106,10 @@ pub fn rounds(
     k: usize,
 ) -> bool
     requires { ⌜ fours ≤ 6 ⌝ }
-    requires { ⌜ SmallRows (now table) × Small (now ticks) 16 ⌝ }
+    requires { ⌜ SmallRows (now table) × Small (now stays) 16 ⌝ }
     requires { ⌜ length (now starts) ≡ 24 ⌝ }
-    requires { ⌜ (now latency ≡ latencyOf (now ticks) (now starts) 24) × ((now latency < bound) × (bound ≤ 23017)) ⌝ }
-    ensures { λ r. ⌜ record { starts = now (starts .exit); latency = now (latency .exit); found = r } ≡ roundsOf (now (table .entry)) (now (ticks .entry)) fours bound (now (starts .entry)) (now (latency .entry)) k ⌝ }
+    requires { ⌜ (now latency ≡ latencyOf (now stays) (now starts) 24) × ((now latency < bound) × (bound ≤ 23017)) ⌝ }
+    ensures { λ r. ⌜ record { starts = now (starts .exit); latency = now (latency .exit); found = r } ≡ roundsOf (now (table .entry)) (now (stays .entry)) fours bound (now (starts .entry)) (now (latency .entry)) k ⌝ }
 {
     if k == 0 {
         return false;
@@ -119,11 +119,11 @@ pub fn rounds(
     if same(&old, &new) {
         return true;
     }
-    let risen = raised_latency(*latency, ticks, &new);
+    let risen = raised_latency(*latency, stays, &new);
     *starts = new;
     *latency = risen;
     if bound <= risen {
         return false;
     }
-    rounds(table, ticks, starts, latency, bound, fours, k - 1)
+    rounds(table, stays, starts, latency, bound, fours, k - 1)
 }

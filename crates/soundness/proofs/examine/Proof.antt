@@ -58,10 +58,10 @@ state-ok-requires c κs =
       counts-jobs _ _ (listed .before .before .before .before .before .before .counts-pass .ensures) (listed .before .before .before .before .before .if1 .left),
     )
 
-ticks-of-requires : tie.Need-ticks-of-requires
-ticks-of-requires c κs =
+stays-of-requires : tie.Need-stays-of-requires
+stays-of-requires c κs =
     let passed = c .before .before .before .before .before .before .before .before .before .before .before .before in
-    counts-jobs _ _ (passed .before .counts-pass .ensures) (passed .if1 .left)
+    counts-tabled _ _ (passed .before .counts-pass .ensures) (passed .if1 .left)
 
 returns-5 : tie.Need-returns-5
 returns-5 c =
@@ -72,7 +72,7 @@ returns-5 c =
     let passed = read .before .before .before in
     examined _ _ _ _ _ _ _ _ (passed .before .counts-pass .ensures) (passed .if1 .left) (read .before .before .read-delays .ensures) (read .if2 .left)
     (few .before .list-clashes .ensures) (few .if3 .left) (met .before .read-delays-met .ensures) (met .if4 .left) (path .read-path .ensures) (c .before .state-ok .ensures)
-    (c .ticks-of .ensures)
+    (c .stays-of .ensures)
 
 pub examine-spec : {M : Type 1} → statement M
 examine-spec =
@@ -92,5 +92,5 @@ examine-spec =
     returns-4
     read-path-requires
     state-ok-requires
-    ticks-of-requires
+    stays-of-requires
     returns-5)

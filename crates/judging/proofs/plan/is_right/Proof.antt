@@ -11,7 +11,7 @@ is-right-spec =
     tie.close
     (tie.spec
     (λ c κs. c .pre)
-    (λ c κs. c .before .before .pre .0 .jobs .1)
+    (λ c κs. c .before .before .pre .0)
     (λ c κs. search needs)
     (λ c. ap₂ eqb (c .before .latency-of .ensures) (c .wide16 .ensures .0) ∙ and-then _ _ _ (c .before .before .before .is-valid .ensures) (c .before .before .if1 .taken))
     (λ c. and-else _ _ _ (c .before .is-valid .ensures) (c .if1 .left)))

@@ -3,7 +3,7 @@ use borrow.Author.Needs.{needs}
 use native.Mathlib.Omega.{arith}
 use Rattle.model.proofs.BoolLaws.{apart}
 use Rattle.search.proofs.ReachLaws.{begun-latency, begun-long, gone-at-once, reaches}
-use Rattle.search.proofs.WorksLaws.{counts, small-ticks, bound-small, delays-placed, turns-placed}
+use Rattle.search.proofs.WorksLaws.{counts, small-stays, bound-small, delays-placed, turns-placed}
 use Rattle.search.proofs.node.reach.Statement.{statement}
 use Rattle.search.proofs.node.reach.Tie as tie
 
@@ -14,7 +14,7 @@ reach-spec =
     (λ c κs. search needs)
     (λ c κs.
     let w = c .before .before .pre .0 .1 in
-    ((w .stands .path .deep, turns-placed _ _ _ _ _ w), (small-ticks _ _ _ _ _ w, w .stands .kept .small)))
+    ((w .stands .path .deep, turns-placed _ _ _ _ _ w), (small-stays _ _ _ _ _ w, w .stands .kept .small)))
     -- at best's bound already
     (λ c.
     let begun = c .before in
@@ -33,7 +33,7 @@ reach-spec =
         (
           turns-placed _ _ _ _ _ w,
           (
-            (small-ticks _ _ _ _ _ w, begun-long _ _ _ _ _ w _ (pre .1) _ (begun .begin .ensures)),
+            (small-stays _ _ _ _ _ w, begun-long _ _ _ _ _ w _ (pre .1) _ (begun .begin .ensures)),
             (
               begun-latency _ _ _ _ _ w _ (pre .1) _ (begun .begin .ensures),
               (omega (arith, c .before .before .if1 .left), omega (arith, bound-small _ _ _ _ _ w, begun .before .before .bound-of .ensures)),

@@ -49,7 +49,7 @@ begin-spec =
     let a = c .before .before .before .before .before .before .before .before .before .before .before .before .before .before .args in
     omega (
       arith,
-      c .ticks-wide .ensures,
+      c .stay-wide .ensures,
       c .before .before .before .larger .ensures,
       pre .1 .0 .each (c .before .before .before .before .before .before .wide2 .result),
       pre .1 .1 .starts ((a .depth - 1) % 32) .each (c .before .before .before .before .before .before .wide2 .result),
@@ -60,4 +60,4 @@ begin-spec =
     -- the row, raised
     (λ c.
     let tagged = c .before .before .before .before .before .before .before .before .before .before .before in
-    begun-raised _ _ _ _ _ _ _ _ _ _ _ (tagged .before .wide16 .ensures .0) _ (tagged .before .before .before .if1 .left) refl (tagged .if2 .left) _ _ _ _ _ (c .before .before .before .before .before .before .before .before .before .wide .ensures .0) (c .before .before .before .before .before .before .before .wide2 .ensures .0) (c .before .before .before .before .larger .ensures) (c .before .ticks-wide .ensures) (c .larger2 .ensures)))
+    begun-raised _ _ _ _ _ _ _ _ _ _ _ (tagged .before .wide16 .ensures .0) _ (tagged .before .before .before .if1 .left) refl (tagged .if2 .left) _ _ _ _ _ (c .before .before .before .before .before .before .before .before .before .wide .ensures .0) (c .before .before .before .before .before .before .before .wide2 .ensures .0) (c .before .before .before .before .larger .ensures) (c .before .stay-wide .ensures) (c .larger2 .ensures)))

@@ -4,7 +4,7 @@ use borrow.Author.Needs.{needs}
 use lib.ListN.{length, length-map}
 use Rattle.clashes.proofs.PairedLaws.{room-new}
 use Rattle.search.proofs.StepsLaws.{steps-none}
-use Rattle.search.proofs.AdvanceLaws.{first-placed, first-paired, first-ticks, first-path, first-coded, first-works, advanced}
+use Rattle.search.proofs.AdvanceLaws.{first-placed, first-paired, first-stays, first-path, first-coded, first-works, advanced}
 use Rattle.search.proofs.run.advance.Statement.{statement}
 use Rattle.search.proofs.run.advance.Tie as tie
 
@@ -31,8 +31,8 @@ advance-spec =
       steps-none _ _,
     ))
     (λ c κs. search needs)
-    -- the ticks are those of a sound record's jobs
-    (λ c κs. let a = c .before .before .before .before .before .before .before .before .before .before .before .before .before .before .before .before .before .before .before .before .before .before .before .before .before .before .before .before .before in first-ticks (a .args .search) (a .args .examined) (a .pre .0 .0) (a .pre .1 .1))
+    -- the stays are those of a sound record's jobs
+    (λ c κs. let a = c .before .before .before .before .before .before .before .before .before .before .before .before .before .before .before .before .before .before .before .before .before .before .before .before .before .before .before .before .before in first-stays (a .args .search) (a .args .examined) (a .pre .0 .0) (a .pre .1 .1))
     (λ c κs.
     let v = c in
     let a = v .before .before .before .before .before .before .before .before .before .before .before .before .before .before .before .before .before .before .before .before .before .before .before .before .before .before .before .before .before .before .before .before .before .before .before .before .before .before .before .before .before .before .before .before .before in

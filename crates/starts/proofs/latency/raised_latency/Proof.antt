@@ -9,10 +9,10 @@ use Rattle.starts.proofs.latency.raised_latency.Statement.{statement}
 use Rattle.starts.proofs.latency.raised_latency.Tie as tie
 
 abbrev Inv-loop : tie.InvT-loop
-Inv-loop latency ticks starts latest₀ i₀ latest i = (i ≤ 24) × (latest ≡ max latency (latencyOf ticks starts i))
+Inv-loop latency stays starts latest₀ i₀ latest i = (i ≤ 24) × (latest ≡ max latency (latencyOf stays starts i))
 
 abbrev μ-loop : tie.MeasureT-loop
-μ-loop latency ticks starts latest₀ i₀ latest i = 24 - i
+μ-loop latency stays starts latest₀ i₀ latest i = 24 - i
 
 pub raised-latency-spec : {M : Type 1} → statement M
 unfolding raisedBy
@@ -24,14 +24,14 @@ raised-latency-spec =
     (λ c. search needs)
     (λ c. search needs)
     (λ c κs. search needs)
-    -- neither a start nor ticks are large
+    -- neither a start nor stays are large
     (λ c.
     let i = c .before .before .before .before .loop .i in
     let pre = c .before .before .before .before .before .pre in
-    omega (arith, c .ticks-wide .ensures, pre .0 .each i, pre .1 .each i))
+    omega (arith, c .stay-wide .ensures, pre .0 .each i, pre .1 .each i))
     (λ c κs. search needs)
     (λ c. search needs)
     (λ c. search needs)
     -- one place more
-    (λ c. (search needs, rw latency-more (omega (arith, c .before .before .before .before .before .loop .inv .1, c .before .ticks-wide .ensures, c .larger .ensures))))
+    (λ c. (search needs, rw latency-more (omega (arith, c .before .before .before .before .before .loop .inv .1, c .before .stay-wide .ensures, c .larger .ensures))))
     (λ c. let h : c .before .loop .i ≡ 24 = omega arith in rw (← h) (c .before .loop .inv .1)))

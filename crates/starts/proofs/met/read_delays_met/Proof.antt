@@ -1,4 +1,4 @@
--- `read_delays_met` meets its contract: the arrays that are read hold the delays, and there are no ticks.
+-- `read_delays_met` meets its contract: the arrays that are read hold the delays, and no job stays.
 use borrow.Author.Needs.{needs}
 use native.Mathlib.Omega.{arith}
 use Prim.Native.Nat.{ℕ}

@@ -2,8 +2,8 @@
 use native.Mathlib.Omega.{arith}
 use Rattle.starts.specs.Latency.{raisedBy, longestOf}
 use Rattle.starts.proofs.FillLaws.{zeros-small}
-use Rattle.starts.proofs.delays.longest_of.Statement.{statement}
-use Rattle.starts.proofs.delays.longest_of.Tie as tie
+use Rattle.starts.proofs.stays.longest_of.Statement.{statement}
+use Rattle.starts.proofs.stays.longest_of.Tie as tie
 
 pub longest-of-spec : {M : Type 1} → statement M
 unfolding raisedBy longestOf

@@ -1,0 +1,33 @@
+-- `stay_of` meets its contract. The loop's invariant: the ticks from p on are empty, so the first p decide.
+use Prim.Native.Nat.{_≤_}
+use mathlib.Core.Path.{_≡_}
+use borrow.Author.Needs.{needs}
+use Rattle.model.specs.Plan.{stayIn, stay}
+use Rattle.starts.proofs.StaysLaws.{stay-start, stay-found, stay-down, stay-nothing}
+use Rattle.starts.proofs.stays.stay_of.Statement.{statement}
+use Rattle.starts.proofs.stays.stay_of.Tie as tie
+
+abbrev Inv-loop : tie.InvT-loop
+Inv-loop masks ticks p = (p ≤ 16) × (stayIn (record { ticks = ticks; masks = masks }) p ≡ stay (record { ticks = ticks; masks = masks }))
+
+abbrev μ-loop : tie.MeasureT-loop
+μ-loop masks ticks p = p
+
+pub stay-of-spec : {M : Type 1} → statement M
+stay-of-spec =
+    tie.close
+    (tie.spec Inv-loop μ-loop
+    (λ c. (c .before .pre, stay-start _))
+    (λ c. search needs)
+    (λ c κs. search needs)
+    (λ c. search needs)
+    (λ c. search needs)
+    (λ c. let turn = c .before .before in stay-found _ _ _ (turn .before .loop .inv .1) (turn .loop-test .taken) (c .before .wide .ensures .0) (c .if1 .taken))
+    (λ c. search needs)
+    (λ c. search needs)
+    (λ c.
+    let turn = c .before .before in (
+      search needs,
+      rw (c .before .wide .ensures .0) at (stay-down _ _ _ (turn .before .loop .inv .1) (turn .loop-test .taken) (c .before .wide .ensures .0) (c .if1 .left)),
+    ))
+    (λ c. stay-nothing _ _ (c .before .loop .inv .1) (c .loop-test .left)))
