@@ -16,7 +16,7 @@ import time
 
 sys.dont_write_bytecode = True
 sys.path.insert(0, os.path.join(os.path.dirname(os.path.abspath(__file__)), "..", "tests"))
-from batches import apart  # noqa: E402
+from batches import apart, stay  # noqa: E402
 
 LIMIT = 30  # seconds for one run
 RUNS = 5
@@ -46,7 +46,7 @@ def smt_model(jobs, delays, clashes):
     def at_least(j, i, w):
         return "(>= (- t%d t%d) %s)" % (j, i, w if w >= 0 else "(- %d)" % -w)
     starts = range(len(jobs))
-    says = ["(>= t%d 0)" % i for i in starts] + ["(>= latency (+ t%d %d))" % (i, len(jobs[i])) for i in starts]
+    says = ["(>= t%d 0)" % i for i in starts] + ["(>= latency (+ t%d %d))" % (i, stay(jobs[i])) for i in starts]
     says += [at_least(j, i, w) for i, j, w in delays]
     says += ["(or %s %s)" % (at_least(j, i, d + 1), at_least(i, j, 1 - d)) for i, j, d in clashes]
     text = ["(declare-const t%d Int)" % i for i in starts] + ["(declare-const latency Int)"]
@@ -62,7 +62,7 @@ def horizon(jobs, delays, clashes):
     for i, j, d in clashes:
         entering[j] = max(entering[j], d + 1)
         entering[i] = max(entering[i], 1 - d)
-    return sum(entering) + max(len(masks) for masks in jobs)
+    return sum(entering) + max(stay(masks) for masks in jobs)
 
 
 def lp_model(jobs, delays, clashes):
@@ -71,13 +71,13 @@ def lp_model(jobs, delays, clashes):
     last = horizon(jobs, delays, clashes)
     starts = range(len(jobs))
     text = ["Minimize", " obj: latency", "Subject To"]
-    text += [" end%d: latency - t%d >= %d" % (i, i, len(jobs[i])) for i in starts]
+    text += [" finish%d: latency - t%d >= %d" % (i, i, stay(jobs[i])) for i in starts]
     text += [" delay%d: t%d - t%d >= %d" % (k, j, i, w) for k, (i, j, w) in enumerate(delays)]
     for k, (i, j, d) in enumerate(clashes):
-        above, below = last - len(jobs[i]) + d + 1, last - len(jobs[j]) + 1 - d
+        above, below = last - stay(jobs[i]) + d + 1, last - stay(jobs[j]) + 1 - d
         text.append(" above%d: t%d - t%d - %d x%d >= %d" % (k, j, i, above, k, d + 1 - above))
         text.append(" below%d: t%d - t%d + %d x%d >= %d" % (k, i, j, below, k, 1 - d))
-    text += ["Bounds"] + [" 0 <= t%d <= %d" % (i, last - len(jobs[i])) for i in starts] + [" 0 <= latency <= %d" % last]
+    text += ["Bounds"] + [" 0 <= t%d <= %d" % (i, last - stay(jobs[i])) for i in starts] + [" 0 <= latency <= %d" % last]
     text += ["Generals", " latency"]
     if clashes:
         text += ["Binaries"] + [" x%d" % k for k in range(len(clashes))]

@@ -7,6 +7,9 @@
  * and its text cannot be written. A plan text, wherever it comes from, is judged beside its batch file; that needs
  * no record.
  *
+ * A plan's latency is the first tick from which on no job holds a station, or the start of a job that holds none,
+ * if one starts later. Empty ticks at the end of a job do not count. Where no job holds a station it may be 0.
+ *
  * For every call:
  * - No pointer may be null, also where the length that goes with it is 0. Each is aligned for its type and valid
  *   for the length given, and no memory that a call may write overlaps other memory passed to it.
@@ -33,13 +36,13 @@ extern "C" {
 /* ---- the version */
 
 /* It rises whenever the record's layout, a number's meaning or a call changes, and when a call is added. A program
- * compiled with this header links only with an archive of the same version: with gcc and clang every file that includes the header refers to
- * planner_version_2, a name that no archive of another version has. With another compiler, or with --gc-sections
- * and a gcc before 11 or a clang before 13, call planner_version_2() somewhere in the program; it answers
- * PLANNER_VERSION.
+ * compiled with this header links only with an archive of the same version: with gcc and clang every file that
+ * includes the header refers to planner_version_3, a name that no archive of another version has. With another
+ * compiler, or with --gc-sections and a gcc before 11 or a clang before 13, call planner_version_3() somewhere in
+ * the program; it answers PLANNER_VERSION. (Since 3, empty ticks at the end of a job do not count in the latency.)
  */
-#define PLANNER_VERSION 2
-uint32_t planner_version_2(void);
+#define PLANNER_VERSION 3
+uint32_t planner_version_3(void);
 
 #if defined(__GNUC__)
 #pragma GCC diagnostic push
@@ -49,7 +52,7 @@ uint32_t planner_version_2(void);
 __attribute__((__retain__)) /* --gc-sections keeps it */
 #endif
 #endif
-__attribute__((__used__)) static uint32_t (*const planner_linked)(void) = planner_version_2;
+__attribute__((__used__)) static uint32_t (*const planner_linked)(void) = planner_version_3;
 #pragma GCC diagnostic pop
 #endif
 
@@ -109,7 +112,7 @@ typedef struct planner_turn {
  */
 typedef struct planner_record {
     uint32_t total;                     /* nodes visited so far */
-    uint16_t latency;                   /* the latency of the best plan so far; 0 where there is none */
+    uint16_t latency;                   /* the latency of the best plan so far, 0 where found is 0 */
     uint16_t found;                     /* 0 where there is no plan yet, else there is one */
     uint16_t ended;                     /* 0 while the search goes on, else it has ended */
     uint16_t starts[PLANNER_JOBS];      /* the starts of the best plan so far: the first batch.n count */

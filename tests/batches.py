@@ -82,6 +82,11 @@ def joined(texts):
     return "".join(text + "\n" for text in texts).encode()
 
 
+def stay(masks):
+    """The ticks from a job's start to its finish: those up to its last one that is not empty."""
+    return max((a + 1 for a, mask in enumerate(masks) if mask), default=0)
+
+
 def apart(first, second):
     """The differences t_j - t_i at which two jobs hold one station in one tick."""
     return {a - b for a, x in enumerate(first) for b, y in enumerate(second) if x & y}

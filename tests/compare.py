@@ -21,6 +21,7 @@ CLAUSES = ["n below 1", "n above 24", "m above 128", "p below 1", "p above 16", 
            "a turn after an empty place", "a turn while ended", "total above 100,000,000", "a start above 23,000",
            "latency above 23,016"]
 FEWEST = 10
+GONE_ON = 100  # lists, for each way to change tables, whose search goes on after it and ends in a plan
 
 
 def known_batches(rng, independent):
@@ -89,6 +90,20 @@ def check_clauses(tally, lists, said):
     print("  lists that break one clause alone: " + "; ".join("%s: %d" % (name, seen[name]) for name in CLAUSES))
 
 
+def check_changed(tally, cases, due):
+    """Enough searches go on after their tables changed, in each way, and end in a plan."""
+    plans = {kind: 0 for kind, _ in cases if kind.startswith("list: last ticks")}
+    for kind, _, given in in_cases(cases, due):
+        if kind in plans:
+            plans[kind] += " : B0" in given[-len(TEXTS)]
+    for kind, count in plans.items():
+        if count < GONE_ON:
+            tally.note("tables changed too seldom", False, kind, "%d plans" % GONE_ON, count)
+    if len(plans) < 5:
+        tally.note("tables changed too seldom", False, "ways to change them", 5, len(plans))
+    print("  plans after a change: " + "; ".join("%s: %d" % (kind[6:], count) for kind, count in plans.items()))
+
+
 def compare_plan(tally, rng, plan, own, files):
     """PLAN itself: files of every kind that end soon, input past 65,536 bytes, and a batch that takes two runs."""
     soon = ending_soon([own, "calls"], files)
@@ -119,6 +134,7 @@ def main():
     compare_plan(tally, rng, plan, own, files)
     check_kinds(tally, due)
     check_clauses(tally, lists, said)
+    check_changed(tally, cases, due)
     tally.show()
     tally.write(counts)
 

@@ -11,6 +11,12 @@ def some_batch(rng, most_jobs):
     return batch(rng, rng.randint(1, most_jobs), rng.choice([2, 4, 6, 16]))
 
 
+def of_every_size(rng, count):
+    """Batches of 1 to 24 jobs, the larger ones with short tables, so that most searches end soon."""
+    for n in (1 + k % 24 for k in range(count)):
+        yield batch(rng, n, rng.choice([2, 4, 6, 16] if n < 10 else [1, 2, 2, 3]))
+
+
 def test_batch(last):
     """01's test batch: D is 1,024 with a last job of 13 ticks, above with 14."""
     return [[1] * 16] * 8 + [[1], [2] * 16, [2] * last]

@@ -1,6 +1,7 @@
-// The planner of document 01 and the judge of document 02 once more, written from their text alone, to compare with.
-// `independent plan` behaves as the program `plan`, `independent calls` as the check program. `independent clauses`
-// takes the same calls and answers an R, P or B with its letter and the clauses of soundness that its record breaks.
+// The planner of document 01 with the judge and the latency of document 02, once more: written from their text alone, to
+// compare with. `independent plan` behaves as the program `plan`, `independent calls` as the check program.
+// `independent clauses` takes the same calls and answers an R, P or B with its letter and the clauses of soundness that
+// its record breaks.
 use std::collections::HashSet;
 use std::io::{BufRead, Read, Write};
 
@@ -112,7 +113,19 @@ fn open(mut file: &[u8]) -> Result<Record, u64> {
     Ok(r)
 }
 
-// ---- clashes, least starts, soundness
+// ---- latency, clashes, least starts, soundness
+
+/// When a job that starts then finishes: its start plus the number of its last tick that is not empty plus 1. One that
+/// holds no station finishes at its start.
+fn finish(r: &Record, job: usize, start: u64) -> u64 {
+    let last = (0..r.ticks[job]).rev().find(|tick| r.masks[job][*tick] != 0);
+    last.map_or(start, |tick| start + tick as u64 + 1)
+}
+
+/// The largest finish of the jobs with these starts, 0 included.
+fn latency(r: &Record, starts: impl Iterator<Item = u64>) -> u64 {
+    starts.enumerate().map(|(job, start)| finish(r, job, start)).fold(0, u64::max)
+}
 
 fn clashes(r: &Record) -> Vec<Inequality> {
     let mut list = Vec::new();
@@ -266,7 +279,7 @@ fn node(r: &mut Record, list: &[Inequality]) {
     let Some(t) = least_starts(r.n, &inequalities) else {
         return go_back(r);
     };
-    let latency = (0..r.n).map(|i| t[i] as u64 + r.ticks[i] as u64).max().unwrap();
+    let latency = latency(r, t.iter().map(|start| *start as u64));
     if r.best.is_some_and(|best| latency >= best) {
         return go_back(r);
     }
@@ -396,8 +409,7 @@ fn judge(file: &[u8], text: &[u8]) -> Result<(), u64> {
     let r = open(file)?;
     let plan = plan_lines(text).ok_or(17u64)?;
     refuse(18, plan.n != r.n as u64 || !plan.jobs.iter().copied().eq(0..r.n as u64))?;
-    let latency = (0..r.n).map(|job| plan.starts[job] + r.ticks[job] as u64).max().unwrap();
-    refuse(19, !valid(&r, &plan.starts) || plan.latency != latency)
+    refuse(19, !valid(&r, &plan.starts) || plan.latency != latency(&r, plan.starts.iter().copied()))
 }
 
 // ---- the program `plan`

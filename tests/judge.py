@@ -8,7 +8,9 @@ import re
 from collections import Counter, defaultdict
 from concurrent.futures import ThreadPoolExecutor
 
-from batches import answers, batch, ending_soon, joined, lines, opening, output, words_of
+from batches import answers, ending_soon, joined, lines, opening, output, words_of
+from files import of_every_size
+from plans import outlasted, read_file, starts_of
 from tally import Tally
 from texts import C2, C2_PLAN, C3, C3_PLAN, NO_PLAN, by_name, changed, other_files, other_starts, other_totals
 
@@ -34,17 +36,14 @@ FEWEST = {"PLAN's text": {0: 100, 17: 5, 10: 5},
           "another total": {0: 300},
           "file damaged": {number: 3 for number in (0, 1, 2, 3, 4, 5, 6, 7, 8, 10, 19)},
           "file of another batch": {0: 5, 18: 50, 19: 50},
-          "by name": {**{number: 6 for number in range(1, 11)}, 0: 15, 17: 40, 18: 20, 19: 20}}
+          "by name": {**{number: 6 for number in range(1, 11)}, 0: 25, 17: 40, 18: 20, 19: 35}}
 
 
 # ---- the cases
 
 def printed_texts(rng, plan, own):
     """(file, what PLAN prints) for batches of 1 to 24 jobs whose search ends soon, and for the examples."""
-    files = []
-    for k in range(BATCHES):
-        n = 1 + k % 24
-        files.append(("", joined(lines(*batch(rng, n, rng.choice([2, 4, 6, 16] if n < 10 else [1, 2, 2, 3]))))))
+    files = [("", joined(lines(*one))) for one in of_every_size(rng, BATCHES)]
     soon = [data for _, data in ending_soon([own, "calls"], files)]
     for name in sorted(glob.glob("../examples/*.batch")):
         with open(name, "rb") as file:
@@ -130,13 +129,14 @@ def compare_records(tally, own, calls, printed):
 
 
 def check_sizes(tally, printed):
-    """PLAN's plans are of batches of all sizes, with delays and without."""
-    heads = [data[4:8] for data, text in printed if text.startswith(b"B0")]
-    sizes, free = {head[:2] for head in heads}, sum(head[2:] == b"00" for head in heads)
-    print("  plans that PLAN printed: %d, of %d numbers of jobs, %d with delays, %d without"
-          % (len(heads), len(sizes), len(heads) - free, free))
-    if len(sizes) < 24 or len(heads) - free < 50 or free < 20:
-        tally.note("plans too much alike", False, "plans that PLAN printed", "24, 50 and 20", "fewer")
+    """PLAN's plans are of batches of all sizes, with delays and without, and with empty ticks past their latency."""
+    plans = [(data, text) for data, text in printed if text.startswith(b"B0")]
+    sizes, free = {data[4:6] for data, _ in plans}, sum(data[6:8] == b"00" for data, _ in plans)
+    empty = sum(outlasted(read_file(data)[0], starts_of(text), int(text[6:10], 16)) for data, text in plans)
+    print("  plans that PLAN printed: %d, of %d numbers of jobs, %d with delays, %d without, %d with empty ticks behind"
+          % (len(plans), len(sizes), len(plans) - free, free, empty))
+    if len(sizes) < 24 or len(plans) - free < 50 or free < 20 or empty < 20:
+        tally.note("plans too much alike", False, "plans that PLAN printed", "24, 50, 20 and 20", "fewer")
 
 
 def check_answers(tally, seen):

@@ -1,6 +1,7 @@
 """The lists of calls that are compared. Each begins with an opening."""
 from batches import clash_count, joined, lines, opening
 from files import test_batch
+from plans import read_file
 
 NONE = 65536  # best's value for none
 EMPTY = 65535
@@ -35,13 +36,20 @@ def runs(rng, batch):
 
 
 def deep_paths(rng):
-    """Searches whose paths outgrow the rows that a run keeps of them, gone on with by few nodes, where a run prepares less, and by many."""
+    """Searches whose paths outgrow the rows that a run keeps of them, gone on with by few nodes, where a run prepares
+    less, and by many. Half of them begin with a job's last ticks emptied, and it gets more such ticks on the way."""
     for name in ("css21", "twelve", "full", "clashes-400", "clashes-1024", "scope-limit"):
         with open("../bench/batches/%s.batch" % name, "rb") as file:
-            first = opening(file.read())
-        for _ in range(4):
+            data = file.read()
+        jobs, _ = read_file(data)
+        for k in range(8):
             budgets = [rng.choice([1, 2, 7, 8, 9, 33, 100, 1000, rng.randint(1, 3000)]) for _ in range(12)]
-            yield "deep paths", [first] + [call for b in budgets for call in ("R %d 24" % b, "D")]
+            calls = [call for b in budgets for call in ("R %d 24" % b, "D")]
+            job = rng.randrange(len(jobs))
+            changes = dict(table_changes(rng, job, len(jobs[job])))
+            if k % 2:
+                calls = changes["emptied"] + calls[:12] + changes["padded"] + calls[12:]
+            yield "deep paths", [opening(data)] + calls
 
 
 def lengths(batch):
@@ -129,6 +137,25 @@ def foreign(rng, batch):
         yield "foreign records", calls + ["D", "R 1 24", "R 0 24", "R 2 24", "D", "R 30 25", "D", "R 2000 24", "D", "P 240"]
 
 
+def table_changes(rng, job, p):
+    """Changes of a job's table of p ticks, by what becomes of its last ones."""
+    yield "emptied", ["S 3 %d %d 0" % (job, tick) for tick in range(rng.randrange(p), p)]
+    yield "padded", ["S 2 %d 0 %d" % (job, rng.randint(min(p + 1, 16), 16))]
+    yield "cut off", ["S 2 %d 0 %d" % (job, rng.randint(1, p))]
+    yield "held after", ["S 3 %d %d 1" % (job, tick) for tick in range(p, 16)]  # where masks do not count
+    yield "held on", ["S 3 %d %d 1" % (job, min(p, 15)), "S 2 %d 0 %d" % (job, min(p + 1, 16))]
+
+
+def changed_tables(rng, batch):
+    """Searches that go on after the tables of two jobs changed, each job's in the same way: it finishes earlier, or
+    later, or just does not."""
+    jobs, _ = read_file(batch.data)
+    pair = [rng.randrange(batch.n) for _ in range(2)]
+    for (name, first), (_, second) in zip(*(list(table_changes(rng, job, len(jobs[job]))) for job in pair)):
+        begun = [opening(batch.data), "R %d 24" % rng.choice([0, rng.randrange(batch.total), batch.total - 1])]
+        yield "last ticks " + name, begun + first + second + ["D", "R 1 24", "D", "R 9 24", "D", "R 2000 24"] + TEXTS
+
+
 def full_path():
     """A path with no empty place."""
     first = [opening(joined(lines(test_batch(13), [])))]
@@ -192,4 +219,5 @@ def all_lists(rng, known):
         made += soundness(batch)
     for batch in known:
         made += foreign(rng, batch)
+        made += changed_tables(rng, batch)
     return made + list(full_path()) + list(clash_limit(rng)) + list(deep_paths(rng))

@@ -12,7 +12,14 @@ def read_file(data):
 
 
 def latency_of(jobs, starts):
-    return max(start + len(masks) for start, masks in zip(starts, jobs))
+    """The largest finish: one past the last tick in which a station is held, or the start of a job that holds none."""
+    past = [start + a + 1 for start, masks in zip(starts, jobs) for a, mask in enumerate(masks) if mask]
+    return max(past + [start for start, masks in zip(starts, jobs) if not any(masks)])
+
+
+def outlasted(jobs, starts, latency):
+    """Whether some table goes on past the latency, with empty ticks: all of its ticks would make the latency larger."""
+    return any(start + len(masks) > latency for start, masks in zip(starts, jobs))
 
 
 def faults(jobs, delays, starts, latency):

@@ -6,11 +6,28 @@ import re
 import sys
 from collections import Counter
 
-from batches import apart, batch, clash_count, joined, lines, output, words_of
-from plans import faults, read_file
+from batches import apart, batch, clash_count, joined, lines, output, stay, words_of
+from plans import faults, outlasted, read_file
 
 BATCHES = 420
+IDLE = 60  # batches with jobs that hold nothing
 MOST_CLASHES = 40
+# What a plan's latency can show of empty ticks, and in how many plans it must at least.
+FEWEST = {"below a start plus all ticks": 80, "a start of a job that holds nothing": 20, "0": 10}
+
+
+def made_batches(rng):
+    """Batches with clashes, but not too many, and batches in which some jobs or all hold nothing."""
+    for number in range(BATCHES):
+        n = 1 + number % 12
+        made = batch(rng, n, rng.choice([2, 4, 6, 16]))
+        while not (n > 3) * n <= clash_count(made[0]) <= MOST_CLASHES:
+            made = batch(rng, n, rng.choice([2, 4, 6, 16]))
+        yield made
+    for number in range(IDLE):
+        jobs, delays = batch(rng, 1 + number % 6, 4)
+        idle = rng.choice([0.5, 1])
+        yield [[0] * len(masks) if rng.random() < idle else masks for masks in jobs], delays
 
 
 def read_answer(text, n):
@@ -39,23 +56,30 @@ def question(jobs, delays, stations, latency):
     if stations:
         says += ["(not (= (- t%d t%d) %s))" % (j, i, d if d >= 0 else "(- %d)" % -d)
                  for j in range(n) for i in range(j) for d in sorted(apart(jobs[i], jobs[j]))]
-    if latency is not None:
-        says += ["false" if latency < len(masks) else "(<= (- t%d z) %d)" % (i, latency - len(masks))
-                 for i, masks in enumerate(jobs)]
+    if latency is not None:  # nothing is past it: no start, and no tick that is not empty
+        ends = [(i, a + 1) for i, masks in enumerate(jobs) for a, mask in enumerate(masks) if mask]
+        ends += [(i, 0) for i in range(n)]
+        says += ["false" if latency < end else "(<= (- t%d z) %d)" % (i, latency - end) for i, end in ends]
     names = ["z"] + ["t%d" % i for i in range(n)]
     return "\n".join(["(reset)", "(set-logic QF_IDL)"] + ["(declare-const %s Int)" % x for x in names]
                      + ["(assert %s)" % s for s in says] + ["(check-sat)"])
 
 
+def shown(jobs, starts, latency):
+    """What the latency of a plan shows of empty ticks."""
+    if outlasted(jobs, starts, latency):
+        yield "below a start plus all ticks"
+    if all(start + stay(masks) < latency for start, masks in zip(starts, jobs) if any(masks)):
+        yield "a start of a job that holds nothing"
+    if latency == 0:
+        yield "0"
+
+
 def main():
     plan, counts = words_of("solver.py PLAN COUNTS")
     rng = random.Random(20240)
-    cases, questions = [], []
-    for number in range(BATCHES):
-        n = 1 + number % 12
-        made = batch(rng, n, rng.choice([2, 4, 6, 16]))
-        while not (n > 3) * n <= clash_count(made[0]) <= MOST_CLASHES:
-            made = batch(rng, n, rng.choice([2, 4, 6, 16]))
+    cases, questions, seen = [], [], Counter()
+    for made in made_batches(rng):
         data = joined(lines(*made))
         jobs, delays = read_file(data)
         out = output([plan], data).decode("latin-1")
@@ -66,6 +90,7 @@ def main():
         asked = []  # questions to z3 with the answers that are due
         if kind == "plan":
             found += faults(jobs, delays, starts, latency)
+            seen.update(shown(jobs, starts, latency))
             asked = [(True, latency - 1, "unsat"), (True, latency, "sat")]
         elif kind == "no plan":
             asked = [(True, None, "unsat"), (False, None, "sat")]
@@ -89,8 +114,10 @@ def main():
         if found and wrong <= 5:
             print("  wrong: %s on %s: %s" % (found, data.decode().split(), out.split()))
     print("  batches: " + ", ".join("%d %s" % (kinds[k], k) for k in sorted(kinds)))
+    print("  latencies: " + ", ".join("%d %s" % (seen[k], k) for k in FEWEST))
     print("  z3: %d questions, %d unsat, %d sat" % (len(questions), answers.count("unsat"), answers.count("sat")))
-    if right + wrong < 300 or not all(kinds[k] for k in ("plan", "no plan", "refused by 10")):
+    if right + wrong < 300 or not all(kinds[k] for k in ("plan", "no plan", "refused by 10")) \
+            or any(seen[k] < least for k, least in FEWEST.items()):
         print("  wrong: too few batches compared, or a kind is missing")
         wrong += 1
     with open(counts, "w") as file:

@@ -3,7 +3,7 @@ own with another file, and cases by name.
 
 A case is (kind, file, text, due). due is the number that the documents or the check of plans.py give, 0 where the text
 passes, and None where the independent program alone says it. PLAN's texts come as (file, text)."""
-from batches import joined, lines
+from batches import joined, lines, stay
 from files import DAMAGES, damaged
 from plans import faults, latency_of, plan_text, read_file, starts_of
 
@@ -67,7 +67,7 @@ def some_starts(rng, jobs, starts):
         yield [start + min(later, room) for start in starts]
     job = rng.randrange(len(starts))
     near = [starts[job] + 1, max(0, starts[job] - 1), starts[job] + 20]
-    for start in near + [rng.randint(0, MOST), MOST - len(jobs[job])]:
+    for start in near + [rng.randint(0, MOST), MOST - stay(jobs[job]), min(MOST, MOST - stay(jobs[job]) + 1)]:
         yield starts[:job] + [start] + starts[job + 1:]
 
 
@@ -121,10 +121,13 @@ C2, C2_PLAN = lined("A0010100 A1010001"), lined("B00101000100000001 B1000000")
 C3, C3_PLAN = lined("A0010200 A1010001 A103000100020002"), lined("B00102000300000003 B1000001 B1010000")
 C5 = lined("A0010202 A1010001 A1010001 A200010000 A201000000")
 C7 = lined("A0010202 A1010001 A1010002 A200010001 A20100FFFF")
-C8 = lined("A0010100 A10200010000")
+C8, C8_PLAN = lined("A0010100 A10200010000"), lined("B00101000100000001 B1000000")
 NO_PLAN = lined("B200000003")
 NO_JOB = lined("B00102000300000003")
 SIXTEEN = lined("A0010100 A110" + "0001" * 16)  # one job of 16 ticks
+PADDED = lined("A0010100 A1100001" + "0000" * 15)  # one job of 16 ticks that holds a station in the first alone
+ONE_EMPTY = lined("A0010100 A1010000")  # one job that holds nothing
+EMPTY_BEHIND = lined("A0010201 A1010001 A103000000000000 A200010005")  # job 1 holds nothing, 5 ticks behind job 0
 APART = lined("A0010201 A1010001 A1010002 A200010000")  # job 1 not before job 0
 CROSSED = lined("A0010200 A10200010002 A10200020001")  # two jobs that clash at distances 1 and -1
 NOTHING = lined("A0010200 A1010000 A1010000")  # two jobs that hold nothing
@@ -143,7 +146,7 @@ def passing():
     yield "C2's plan", C2, C2_PLAN
     yield "C3's plan as 01 prints it", C3, C3_PLAN
     yield "C7's plan", C7, lined("B00102000200000001 B1000000 B1010001")
-    yield "C8's plan: a last tick that holds nothing counts", C8, lined("B00101000200000001 B1000000")
+    yield "C8's plan: a last tick that holds nothing does not count", C8, C8_PLAN
     yield "24 jobs", MANY, MANY_PLAN
     yield "C3's first plan, which is longer", C3, lined("B00102000400000002 B1000000 B1010001")
     yield "C3's plan a tick later", C3, lined("B00102000400000003 B1000002 B1010001")
@@ -152,11 +155,19 @@ def passing():
     yield "start 000A", C2, lined("B00101000B00000001 B100000A")
     yield "the last start that one tick can have", C2, lined("B00101FFFF00000001 B100FFFE")
     yield "the last start that 16 ticks can have", SIXTEEN, lined("B00101FFFF00000001 B100FFEF")
+    yield "the last start that a tick and 15 empty ones can have", PADDED, lined("B00101FFFF00000001 B100FFFE")
+    yield "C8 from FFFE, latency FFFF", C8, lined("B00101FFFF00000001 B100FFFE")
+    yield "an empty job from FFFF, latency FFFF", ONE_EMPTY, lined("B00101FFFF00000001 B100FFFF")
+    yield "an empty job from 0, latency 0", ONE_EMPTY, lined("B00101000000000001 B1000000")
     yield "32,767 ticks after the other", APART, lined("B00102800000000001 B1000000 B1017FFF")
     yield "32,768 ticks after the other", APART, lined("B00102800100000001 B1000000 B1018000")
     yield "60,000 ticks after the other", APART, lined("B00102EA6100000001 B1000000 B101EA60")
     yield "crossed jobs at once", CROSSED, lined("B00102000200000001 B1000000 B1010000")
-    yield "jobs that hold nothing at once", NOTHING, lined("B00102000100000001 B1000000 B1010000")
+    yield "jobs that hold nothing at once", NOTHING, lined("B00102000000000001 B1000000 B1010000")
+    yield "jobs that hold nothing, the first one later", NOTHING, lined("B00102000900000001 B1000009 B1010000")
+    yield "a job that holds nothing is the last to start", EMPTY_BEHIND, lined("B00102000500000001 B1000000 B1010005")
+    yield "a job that holds nothing, at FFFF", EMPTY_BEHIND, lined("B00102FFFF00000001 B1000000 B101FFFF")
+    yield "empty ticks, then a station, up to FFFF", LATER, lined("B00102FFFF00000001 B1000000 B101FFFD")
     yield "later ticks one after the other", LATER, lined("B00102000300000001 B1000000 B1010001")
     yield "station 15, one after the other", LAST, lined("B00102000200000001 B1000000 B1010001")
     yield "the first job ends last", FREE, lined("B00102000600000001 B1000005 B1010000")
@@ -244,7 +255,22 @@ def not_valid():
     yield "latency 0", C3, lined("B00102000000000003 B1000001 B1010000")
     yield "latency of the last job alone", FREE, lined("B00102000100000001 B1000005 B1010000")
     yield "latency of the first job alone", FREE, lined("B00102000100000001 B1000000 B1010005")
-    yield "C8 without its last tick", C8, lined("B00101000100000001 B1000000")
+    yield "C8 with its last tick", C8, lined("B00101000200000001 B1000000")
+    yield "C8, latency 0", C8, lined("B00101000000000001 B1000000")
+    yield "C8 from FFFF, latency 0000", C8, lined("B00101000000000001 B100FFFF")
+    yield "C8 from FFFF, latency FFFF", C8, lined("B00101FFFF00000001 B100FFFF")
+    yield "C8 from FFFF, latency 0001", C8, lined("B00101000100000001 B100FFFF")
+    yield "C8 from FFFE, latency 0000", C8, lined("B00101000000000001 B100FFFE")
+    yield "a tick and 15 empty ones from FFFF, latency 000F", PADDED, lined("B00101000F00000001 B100FFFF")
+    yield "an empty job from FFFF, latency 0000", ONE_EMPTY, lined("B00101000000000001 B100FFFF")
+    yield "an empty job from FFFF, latency FFFE", ONE_EMPTY, lined("B00101FFFE00000001 B100FFFF")
+    yield "an empty job from 0, latency 1", ONE_EMPTY, lined("B00101000100000001 B1000000")
+    yield "jobs that hold nothing, latency 1", NOTHING, lined("B00102000100000001 B1000000 B1010000")
+    yield "the latency without the job that holds nothing", EMPTY_BEHIND, lined("B00102000100000001 B1000000 B1010005")
+    yield "the latency with a tick of that job", EMPTY_BEHIND, lined("B00102000600000001 B1000000 B1010005")
+    yield "the latency with all ticks of that job", EMPTY_BEHIND, lined("B00102000800000001 B1000000 B1010005")
+    yield "a delay to a job that holds nothing", EMPTY_BEHIND, lined("B00102000400000001 B1000000 B1010004")
+    yield "empty ticks, then a station, past FFFF", LATER, lined("B00102000000000001 B1000000 B101FFFE")
     yield "start FFFF, latency 0000", C2, lined("B00101000000000001 B100FFFF")
     yield "start FFFF, latency FFFF", C2, lined("B00101FFFF00000001 B100FFFF")
     yield "16 ticks from FFFF, latency 000F", SIXTEEN, lined("B00101000F00000001 B100FFFF")

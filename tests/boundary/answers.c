@@ -114,9 +114,58 @@ static void check_large(void) {
     same_starts(starts, 0, 0, 0xA5A5, 0xA5A5);
 }
 
+/* A job finishes when its last station lets go: after 1 tick of C8's two. */
+static void check_c8(void) {
+    room memory;
+    uint16_t starts[4];
+    begin("C8: an empty tick at the end does not count");
+    opened(C8, &memory);
+    same_answer(run_starts(&memory, 1, starts, 1), PLANNER_PLAN, 0, 1, 1);
+    same_starts(starts, 0, 0xA5A5, 0xA5A5, 0xA5A5);
+    same(memory.record.latency, 1);
+    begin("an empty tick before a held one counts, and a job that holds none decides with its start");
+    opened("A0010100\nA10400000001000000FF\n", &memory);
+    same_answer(run_starts(&memory, 1, starts, 1), PLANNER_PLAN, 0, 4, 1);
+    opened("A0010201\nA1010001\nA103000000000000\nA200010005\n", &memory);
+    same_answer(run_starts(&memory, 1, starts, 2), PLANNER_PLAN, 0, 5, 1);
+    same_starts(starts, 0, 5, 0xA5A5, 0xA5A5);
+}
+
+/* The ended record again with each budget, and a best of latency 0 that came from elsewhere: no node is below it. */
+static void check_zero(void) {
+    room memory;
+    planner_record *record = &memory.record;
+    uint16_t starts[4];
+    begin("jobs that hold nothing: a plan of latency 0, and again after the end");
+    opened(IDLE, &memory);
+    same_answer(run_starts(&memory, 0, starts, 3), PLANNER_SPENT, 0, 0, 0);
+    same(record->found, 0);
+    same_answer(run_starts(&memory, 1, starts, 3), PLANNER_PLAN, 0, 0, 1);
+    same_starts(starts, 0, 0, 0, 0xA5A5);
+    same(record->found, 1);
+    same(record->latency, 0);
+    same(record->ended, 1);
+    same_answer(run_starts(&memory, 0, starts, 3), PLANNER_PLAN, 0, 0, 1);
+    same_answer(run_starts(&memory, PLANNER_BUDGET, starts, 3), PLANNER_PLAN, 0, 0, 1);
+    same_starts(starts, 0, 0, 0, 0xA5A5);
+    same(record->found, 1);
+    begin("a best of latency 0 is a best: with found 1 a search ends at its next node, with found 0 it goes on");
+    opened(C3, &memory);
+    record->found = 1;
+    record->starts[1] = 7;
+    same_answer(run_starts(&memory, 1, starts, 2), PLANNER_PLAN, 0, 0, 1);
+    same_starts(starts, 0, 7, 0xA5A5, 0xA5A5);
+    opened(C3, &memory);
+    record->starts[1] = 7;
+    same_answer(run_starts(&memory, 1, starts, 2), PLANNER_SPENT, 0, 0, 1);
+    same_answer(run_starts(&memory, 2, starts, 2), PLANNER_PLAN, 0, 3, 3);
+}
+
 void check_answers(void) {
     check_c3();
     check_c5();
     check_wedding();
     check_large();
+    check_c8();
+    check_zero();
 }

@@ -6,6 +6,10 @@
 const char *const C3 = "A0010200\nA1010001\nA103000100020002\n";
 const char *const C3_PLAN = "B00102000300000003\nB1000001\nB1010000\n";
 const char *const C5 = "A0010202\nA1010001\nA1010001\nA200010000\nA201000000\n";
+const char *const C8 = "A0010100\nA10200010000\n";
+const char *const C8_PLAN = "B00101000100000001\nB1000000\n";
+const char *const IDLE = "A0010300\nA1010000\nA10200000000\nA1010000\n";
+const char *const IDLE_PLAN = "B00103000000000001\nB1000000\nB1010000\nB1020000\n";
 
 static const char *present;
 static long compared, unlike, passed, failed;

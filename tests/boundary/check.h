@@ -56,10 +56,15 @@ planner_answer run(planner_record *record, uint32_t budget);
 void same_answer(planner_answer got, int kind, int refusal, long latency, long total);
 
 /* The document's batch C3, whose plan of latency 3 starts at 1 and 0 and takes 3 nodes, that plan as it is printed, and C5, which has no plan and
- * takes 3 nodes. */
+ * takes 3 nodes. Its C8, one job of a held tick and an empty one, with the plan of latency 1; and three jobs that hold nothing, with the plan of
+ * latency 0. */
 extern const char *const C3;
 extern const char *const C3_PLAN;
 extern const char *const C5;
+extern const char *const C8;
+extern const char *const C8_PLAN;
+extern const char *const IDLE;
+extern const char *const IDLE_PLAN;
 
 /* The groups. */
 void check_version(void);

@@ -33,7 +33,7 @@ static const char C7[] = "A0010202\nA1010001\nA1010002\nA200010001\nA20100FFFF\n
 static const char SIXTEEN[] = "A0010100\nA1100001000100010001000100010001000100010001000100010001000100010001\n";
 
 static void check_passing(void) {
-    begin("0: C3's plan as it is printed, other totals, longer plans, the last starts");
+    begin("0: C3's plan as it is printed, other totals, longer plans, empty ticks, the last starts");
     same(judged(C3, C3_PLAN), 0);
     same(judged(C3, "B00102000300000000\nB1000001\nB1010000\n"), 0);
     same(judged(C3, "B001020003FFFFFFFF\nB1000001\nB1010000\n"), 0);
@@ -42,6 +42,10 @@ static void check_passing(void) {
     same(judged(C7, "B00102000200000001\nB1000000\nB1010001\n"), 0);
     same(judged(C2, "B00101FFFF00000001\nB100FFFE\n"), 0);
     same(judged(SIXTEEN, "B00101FFFF00000001\nB100FFEF\n"), 0);
+    same(judged(C8, C8_PLAN), 0);
+    same(judged(C8, "B00101FFFF00000001\nB100FFFE\n"), 0);
+    same(judged(IDLE, IDLE_PLAN), 0);
+    same(judged(IDLE, "B00103FFFF00000001\nB1000000\nB101FFFF\nB1020000\n"), 0);
 }
 
 static void check_form(void) {
@@ -86,6 +90,11 @@ static void check_invalid(void) {
     same(judged(C3, "B00102000400000003\nB1000001\nB1010000\n"), PLANNER_REFUSAL_INVALID);
     same(judged(C2, "B00101000000000001\nB100FFFF\n"), PLANNER_REFUSAL_INVALID);
     same(judged(SIXTEEN, "B00101000F00000001\nB100FFFF\n"), PLANNER_REFUSAL_INVALID);
+    same(judged(C8, "B00101000200000001\nB1000000\n"), PLANNER_REFUSAL_INVALID);
+    same(judged(C8, "B00101000000000001\nB100FFFF\n"), PLANNER_REFUSAL_INVALID);
+    same(judged(IDLE, "B00103000100000001\nB1000000\nB1010000\nB1020000\n"), PLANNER_REFUSAL_INVALID);
+    same(judged(IDLE, "B00103000000000001\nB1000000\nB101FFFF\nB1020000\n"), PLANNER_REFUSAL_INVALID);
+    same(judged(IDLE, "B00103FFFE00000001\nB1000000\nB101FFFF\nB1020000\n"), PLANNER_REFUSAL_INVALID);
     same(judged(C3, "B00102000300000003\nB1010000\nB1000000\n"), PLANNER_REFUSAL_ORDER);
     same(judged(C3, "B00102000300000003\nB1000000\nB1010000"), PLANNER_REFUSAL_FORM);
 }

@@ -147,7 +147,7 @@ static void check_answered(void) {
     bytes[0] = call_takes(opening);
     same(opened, 0);
     bytes[1] = call_takes(running);
-    same_answer(answer, PLANNER_PLAN, 0, 10 * (PLANNER_JOBS - 1) + PLANNER_TICKS, 1);
+    same_answer(answer, PLANNER_PLAN, 0, 10 * (PLANNER_JOBS - 1), 1);
     bytes[2] = call_takes(writing_plan);
     same(written.refusal, 0);
     same((long)written.length, PLANNER_PLAN_TEXT);

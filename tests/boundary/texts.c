@@ -42,6 +42,15 @@ static void check_short(void) {
     same(run(&record, 3).kind, PLANNER_PLAN);
     same_string(planner_write_plan, &record, C3_PLAN);
     same_string(planner_write_batch, &record, C3);
+    begin("C8 and jobs that hold nothing: latencies 1 and 0");
+    same(open_text(C8, &record), 0);
+    same(run(&record, 1).kind, PLANNER_PLAN);
+    same_string(planner_write_plan, &record, C8_PLAN);
+    same_string(planner_write_batch, &record, C8);
+    same(open_text(IDLE, &record), 0);
+    same(run(&record, 1).kind, PLANNER_PLAN);
+    same_string(planner_write_plan, &record, IDLE_PLAN);
+    same_string(planner_write_batch, &record, IDLE);
     begin("C5: the line for no plan");
     same(open_text(C5, &record), 0);
     same(run(&record, 3).kind, PLANNER_NO_PLAN);
@@ -49,7 +58,8 @@ static void check_short(void) {
     same_string(planner_write_batch, &record, C5);
 }
 
-/* 24 jobs, each 978 to 1,000 ticks after the one before: a line of 19 bytes and 24 of 9. */
+/* 24 jobs, each 978 to 1,000 ticks after the one before: a line of 19 bytes and 24 of 9. They hold nothing, so that the latency is the last
+ * start, 22,747. */
 static void check_longest_plan(void) {
     plain batch = idle(24, 16, 23);
     planner_record record;
@@ -64,7 +74,7 @@ static void check_longest_plan(void) {
     }
     open_plain(&batch, &record);
     same(run(&record, 1).kind, PLANNER_PLAN);
-    out += strlen(strcpy(out, "B0011858EB00000001\n"));
+    out += strlen(strcpy(out, "B0011858DB00000001\n"));
     for (i = 0; i < 24; i++) {
         out += strlen(strcpy(out, "B1"));
         *out++ = digits[i / 16];

@@ -1,7 +1,7 @@
 //! The planner's search once more, in plain Rust: the peer that the proved library is measured beside.
 //!
-//! It takes the scope's steps as they stand (soundness of the record and the clash list once a run; at each node the weight table from delays and turns, rounds,
-//! latency, the first met clash, going back), written as one writes Rust for use: safe code, no dependency, nothing allocated at a node.
+//! It takes the scope's steps as they stand (soundness of the record, the clash list and each job's stay once a run; at each node the weight table from delays and
+//! turns, rounds, latency, the first met clash, going back), written as one writes Rust for use: safe code, no dependency, nothing allocated at a node.
 
 mod file;
 mod search;
@@ -25,6 +25,13 @@ pub struct Refusal(pub u8);
 pub struct Job {
     pub ticks: u8,
     pub masks: [u16; TICKS],
+}
+
+impl Job {
+    /// The ticks from the job's start to its finish: those up to the last in which it holds a station.
+    pub fn stay(&self) -> usize {
+        self.masks[..self.ticks.into()].iter().rposition(|mask| *mask != 0).map_or(0, |tick| tick + 1)
+    }
 }
 
 /// `to` starts at least `weight` ticks after `from`.

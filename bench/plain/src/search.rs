@@ -30,7 +30,8 @@ impl Search {
     }
 
     fn visit_nodes(&mut self, budget: u32, list: &[Clash], path: Vec<Turn>) {
-        let mut work = Work { batch: &self.batch, list, table: Table::new(self.batch.n.into()), path, best: self.best };
+        let stays = self.batch.jobs().iter().map(|job| job.stay() as i32).collect();
+        let mut work = Work { batch: &self.batch, list, stays, table: Table::new(self.batch.n.into()), path, best: self.best };
         let mut left = budget;
         while !self.ended && left > 0 {
             self.ended = !work.visit();
@@ -62,6 +63,7 @@ impl Search {
 struct Work<'a> {
     batch: &'a Batch,
     list: &'a [Clash],
+    stays: Vec<i32>,
     table: Table,
     path: Vec<Turn>,
     best: Option<Best>,
@@ -104,8 +106,8 @@ impl Work<'_> {
     }
 
     fn latency(&self, starts: &[i32; JOBS]) -> i32 {
-        let ends = self.batch.jobs().iter().zip(starts).map(|(job, start)| start + i32::from(job.ticks));
-        ends.max().unwrap_or(0)
+        let finishes = self.stays.iter().zip(starts).map(|(stay, start)| start + stay);
+        finishes.max().unwrap_or(0)
     }
 
     fn first_met(&self, starts: &[i32; JOBS]) -> Option<usize> {

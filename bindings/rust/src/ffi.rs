@@ -64,7 +64,7 @@ impl Record {
 }
 
 extern "C" {
-    pub fn planner_version_2() -> u32;
+    pub fn planner_version_3() -> u32;
     pub fn planner_open(file: *const u8, length: usize, record: *mut Record) -> u8;
     pub fn planner_run(record: *mut Record, budget: u32, starts: *mut u16, count: usize) -> Answer;
     pub fn planner_write_plan(record: *const Record, buffer: *mut u8, capacity: usize) -> Text;

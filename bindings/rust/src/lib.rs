@@ -41,7 +41,7 @@ pub use refusal::Refusal;
 use std::fmt;
 
 /// The version of the library that this crate calls. It rises whenever the record's layout, a number's meaning or a call changes, and when a call is added.
-pub const VERSION: u32 = 2;
+pub const VERSION: u32 = 3;
 /// The most jobs of a batch.
 pub const JOBS: usize = 24;
 /// The most nodes of one run.
@@ -64,7 +64,7 @@ pub enum Answer {
     },
     /// The search has ended, and [`Search::plan`] is the shortest valid plan.
     Plan {
-        /// The plan's latency: the latest end of a job, its start plus its ticks.
+        /// The plan's latency: the number of ticks until the last station is let go. A job that holds none counts with its start.
         latency: u16,
         /// Nodes that the search took.
         total: u32,
@@ -86,7 +86,8 @@ pub struct Plan {
 }
 
 impl Plan {
-    /// The latency: the latest end of a job, its start plus its ticks.
+    /// The latency: the number of ticks until the last station is let go. A job that holds none counts with its start, so that the latency is 0
+    /// where no job holds a station and all start at 0.
     #[must_use]
     pub fn latency(&self) -> u16 {
         self.latency
@@ -300,7 +301,7 @@ pub fn judge(file: &[u8], text: &[u8]) -> Result<(), Refusal> {
 /// Asks the library for its version. Who calls this refers to a name that an archive of another version has not.
 fn assert_version() {
     // SAFETY: the call takes nothing and touches no memory.
-    let version = unsafe { ffi::planner_version_2() };
+    let version = unsafe { ffi::planner_version_3() };
     assert_eq!(version, VERSION, "the library has another version than its function's name says");
 }
 

@@ -137,8 +137,7 @@ fn random_starts() {
         let spread = [3, 8, 20, 65536][random.below(4) as usize];
         let base = random.below(65537 - spread);
         let starts: Vec<u16> = batch.jobs.iter().map(|_| (base + random.below(spread)) as u16).collect();
-        let last = starts.iter().zip(&batch.jobs).map(|(start, masks)| usize::from(*start) + masks.len()).max().unwrap();
-        let latency = (last as u16).wrapping_add([0, 0, 0, 1, 65535][random.below(5) as usize]); // nothing else may wrap
+        let latency = (batch.latency(&starts) as u16).wrapping_add([0, 0, 0, 1, 65535][random.below(5) as usize]); // nothing else may wrap
         let text = text_of(&starts, latency, (random.below(1 << 16) << 16 | random.below(1 << 16)) as u32);
         let valid = batch.fault(&starts, latency).is_none();
         assert_eq!(judge(&batch.file(), &text), if valid { Ok(()) } else { Err(Refusal::Invalid) }, "{starts:?} {latency} {batch:?}");

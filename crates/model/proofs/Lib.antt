@@ -19,6 +19,7 @@ pub mod GoodLaws
 pub mod BoundLaws
 pub mod UnderLaws
 pub mod EndLaws
+pub mod PaddedLaws
 pub mod SoundLaws
 pub mod LeaveLaws
 pub mod CallLaws

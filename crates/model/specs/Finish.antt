@@ -6,6 +6,7 @@ use mathlib.Core.Logic.{_⊎_}
 use mathlib.Core.List.{List}
 use lib.Dec.{T}
 use Rattle.model.specs.declared.Batch.{Batch}
+use Rattle.model.specs.declared.Search.{Search}
 use Rattle.model.specs.Limits.{stations}
 use Rattle.model.specs.Batch.{ticks, mask, bit, delaysOf}
 use Rattle.model.specs.Plan.{start, Holds}
@@ -44,3 +45,7 @@ pub record Padded (b b′ : Batch) : Type 0 where
   pub longer : (i : ℕ) → i < b .n → ticks b i ≤ ticks b′ i
   pub same : (i a : ℕ) → i < b .n → a < ticks b i → mask b′ i a ≡ mask b i a
   pub added : (i a : ℕ) → i < b .n → ticks b i ≤ a → a < ticks b′ i → mask b′ i a ≡ 0
+
+-- the record with another batch
+unfoldable pub inBatch : Batch → Search → Search
+inBatch b s = record { batch = b; path = s .path; best = s .best; starts = s .starts; total = s .total; ended = s .ended }

@@ -103,6 +103,14 @@ rows =
     ∷ opens "A0010302 A1010001 A1010002 A1010004 A200010005 A20102FFFE" once 1 (planAt 6 1 (0 ∷ 5 ∷ 3 ∷ []) ∷ [])
     -- four jobs: the order in which clashes are branched on
     ∷ opens "A0010400 A10200010004 A1010002 A1010002 A10200010003" once 5 (planAt 3 5 (0 ∷ 0 ∷ 1 ∷ 1 ∷ []) ∷ [])
+    -- the same with that tick empty: the padded job finishes earlier, and fewer nodes are at or above best
+    ∷ opens "A0010400 A10200010000 A1010002 A1010002 A10200010003" once 7 (planAt 3 7 (0 ∷ 0 ∷ 1 ∷ 1 ∷ []) ∷ [])
+    -- empty ticks at a table's end do not count, so that the padded job may go second; those before a non-empty one do
+    ∷ opens "A0010200 A103000100000000 A10200010002" once 3 (planAt 2 3 (1 ∷ 0 ∷ []) ∷ [])
+    ∷ opens "A0010100 A10500000001000000010000" once 1 (planAt 4 1 (0 ∷ []) ∷ [])
+    -- a job that holds no station finishes when it starts, and with such jobs alone the latency is 0 and a plan is found
+    ∷ opens "A0010201 A1010001 A10200000000 A200010005" once 1 (planAt 5 1 (0 ∷ 5 ∷ []) ∷ [])
+    ∷ opens "A0010200 A1010000 A10200000000" (1 ∷ 0 ∷ []) 1 (planAt 0 1 (0 ∷ 0 ∷ []) ∷ planAt 0 1 (0 ∷ 0 ∷ []) ∷ [])
     -- runs on an ended search give its result again
     ∷ opens c3 (3 ∷ 0 ∷ 1000000 ∷ []) 3 (planAt 3 3 (1 ∷ 0 ∷ []) ∷ planAt 3 3 (1 ∷ 0 ∷ []) ∷ planAt 3 3 (1 ∷ 0 ∷ []) ∷ [])
     -- a refused run changes nothing
@@ -175,6 +183,10 @@ planRows =
     -- the latest start there is: its latency has no two bytes, and one tick earlier it has
     ∷ judging "A0010100 A1010001" (fileOf "B00101000000000001 B100FFFF") (refuse 19)
     ∷ judging "A0010100 A1010001" (fileOf "B00101FFFF00000001 B100FFFE") (accept tt)
+    -- C8: its latency is 1, and not the number of its ticks; a job that holds no station may have the latest start
+    ∷ judging "A0010100 A10200010000" (fileOf "B00101000100000001 B1000000") (accept tt)
+    ∷ judging "A0010100 A10200010000" (fileOf "B00101000200000001 B1000000") (refuse 19)
+    ∷ judging "A0010100 A1010000" (fileOf "B00101FFFF00000001 B100FFFF") (accept tt)
     ∷ []
 
 pub marked-plans : map (λ r. judgeTold (judged (r .file) (r .text))) planRows ≡ map (λ r. r .stated) planRows

@@ -21,10 +21,10 @@ mod replies;
 // The version of all that C sees here, a number that its name carries too: it rises whenever the record's layout, a number's meaning or a call changes
 // and when a call is added, and who was compiled for another version does not find this name.
 #[no_mangle]
-pub extern "C" fn planner_version_2() -> u32
-    ensures { λ r. ⌜ r ≡ 2 ⌝ }
+pub extern "C" fn planner_version_3() -> u32
+    ensures { λ r. ⌜ r ≡ 3 ⌝ }
 {
-    2
+    3
 }
 
 // Opens a batch file: 0 and the record of its fresh search, or the refusal, 1 to 10, which leaves the record as it was.

@@ -1,7 +1,7 @@
 -- The loops over a job's ticks and over the jobs: each place of the array has its job's stay.
 use mathlib.Core.Path.{_≡_, refl, ap, sym, _∙_}
 use mathlib.Core.List.{List, []}
-use Prim.Native.Nat.{ℕ, zero, suc, _-_, _≤_, _<_}
+use Prim.Native.Nat.{ℕ, zero, suc, _-_, _≤_}
 use native.Mathlib.Omega.{arith}
 use lib.ListN.{getD}
 use Rattle.model.specs.declared.Job.{Job}
@@ -19,17 +19,14 @@ pub stay-start : (job : Job) → stayIn job (job .ticks) ≡ stay job
 unfolding stay
 stay-start job = refl
 
-module _ (job : Job) (p k : ℕ) (at : stayIn job p ≡ stay job) (some : 0 < p) (e : k ≡ p - 1) where
-  whole : p ≡ suc k
-  whole = omega arith
-
+module _ (job : Job) (p k : ℕ) (e : p ≡ suc k) (at : stayIn job p ≡ stay job) where
   -- a tick that is not empty is the last
   pub stay-found : (getD (job .masks) k 0 ≡ 0 → ⊥) → p ≡ stay job
-  stay-found h = whole ∙ sym (stay-here job k h) ∙ ap (stayIn job) (sym whole) ∙ at
+  stay-found h = e ∙ sym (stay-here job k h) ∙ ap (stayIn job) (sym e) ∙ at
 
   -- an empty one adds nothing
   pub stay-down : getD (job .masks) k 0 ≡ 0 → stayIn job k ≡ stay job
-  stay-down h = sym (stay-less job k h) ∙ ap (stayIn job) (sym whole) ∙ at
+  stay-down h = sym (stay-less job k h) ∙ ap (stayIn job) (sym e) ∙ at
 
 pub stay-nothing : (job : Job) (p : ℕ) → stayIn job p ≡ stay job → p ≤ 0 → 0 ≡ stay job
 unfolding stayIn

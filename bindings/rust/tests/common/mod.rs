@@ -55,6 +55,15 @@ impl Batch {
         batch
     }
 
+    /// The latency of these starts: one past the last tick in which a station is held; a job that holds none counts with its start.
+    pub fn latency(&self, starts: &[u16]) -> usize {
+        let finish = |(start, masks): (&u16, &Vec<u16>)| {
+            let held = masks.iter().rposition(|mask| *mask != 0).map_or(0, |tick| tick + 1);
+            usize::from(*start) + held
+        };
+        starts.iter().zip(&self.jobs).map(finish).max().unwrap_or(0)
+    }
+
     /// What is wrong with a plan: a delay not kept, a station held twice in a tick, another latency.
     pub fn fault(&self, starts: &[u16], latency: u16) -> Option<String> {
         if starts.len() != self.jobs.len() {
@@ -66,11 +75,9 @@ impl Batch {
             }
         }
         let mut held = HashSet::new();
-        let mut last = 0;
         for (job, masks) in self.jobs.iter().enumerate() {
             for (tick, mask) in masks.iter().enumerate() {
                 let now = usize::from(starts[job]) + tick;
-                last = last.max(now + 1);
                 for station in (0..16).filter(|station| mask >> station & 1 == 1) {
                     if !held.insert((now, station)) {
                         return Some(format!("station {station} is held twice in tick {now}"));
@@ -78,7 +85,8 @@ impl Batch {
                 }
             }
         }
-        (last != usize::from(latency)).then(|| format!("the latency is {last}, not {latency}"))
+        let right = self.latency(starts);
+        (right != usize::from(latency)).then(|| format!("the latency is {right}, not {latency}"))
     }
 }
 

@@ -1,6 +1,7 @@
 -- `stay_of` meets its contract. The loop's invariant: the ticks from p on are empty, so the first p decide.
 use Prim.Native.Nat.{_≤_}
 use mathlib.Core.Path.{_≡_}
+use native.Mathlib.Omega.{arith}
 use borrow.Author.Needs.{needs}
 use Rattle.model.specs.Plan.{stayIn, stay}
 use Rattle.starts.proofs.StaysLaws.{stay-start, stay-found, stay-down, stay-nothing}
@@ -22,12 +23,14 @@ stay-of-spec =
     (λ c κs. search needs)
     (λ c. search needs)
     (λ c. search needs)
-    (λ c. let turn = c .before .before in stay-found _ _ _ (turn .before .loop .inv .1) (turn .loop-test .taken) (c .before .wide .ensures .0) (c .if1 .taken))
+    -- the tick is not empty
+    (λ c. let at = c .before .before .before in stay-found _ _ _ (omega (arith, c .before .wide .ensures .0, c .before .before .loop-test .taken)) (at .loop .inv .1) (c .if1 .taken))
     (λ c. search needs)
     (λ c. search needs)
+    -- it is empty
     (λ c.
-    let turn = c .before .before in (
+    let at = c .before .before .before in (
       search needs,
-      rw (c .before .wide .ensures .0) at (stay-down _ _ _ (turn .before .loop .inv .1) (turn .loop-test .taken) (c .before .wide .ensures .0) (c .if1 .left)),
+      stay-down _ _ _ (omega (arith, c .before .before .loop-test .taken)) (at .loop .inv .1) (rw (c .before .wide .ensures .0) at (c .if1 .left)),
     ))
     (λ c. stay-nothing _ _ (c .before .loop .inv .1) (c .loop-test .left)))

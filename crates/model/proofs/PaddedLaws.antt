@@ -1,0 +1,211 @@
+-- Empty ticks at the end of a table change nothing but the table: neither clashes nor validity, least starts, latency, nor any step of the search.
+use Prim.Native.Nat.{ℕ, zero, suc, _+_, _-_, _≤_, _<_, max}
+use mathlib.Core.Path.{_≡_, refl, ap, ap₂, sym, _∙_, subst}
+use mathlib.Core.Logic.{_↔_}
+use mathlib.Core.Bool.{Bool, true, false}
+use mathlib.Core.Option.{Option, none, some}
+use mathlib.Core.List.{List, [], _∷_, _++_, map, foldr, List·Memᴰ, List·Memᴰ·head, List·Memᴰ·tail}
+use native.Mathlib.Omega.{arith}
+use native.Mathlib.Decide.{decLt}
+use lib.ListN.{getD}
+use lib.IntN.{ℤ}
+use lib.Dec.{T}
+use Rattle.model.specs.declared.Delay.{Delay}
+use Rattle.model.specs.declared.Job.{Job}
+use Rattle.model.specs.declared.Turn.{Turn}
+use Rattle.model.specs.declared.Batch.{Batch}
+use Rattle.model.specs.declared.Search.{Search}
+use Rattle.model.specs.Common.{count, keep, joined, if_then_else_}
+use Rattle.model.specs.Batch.{jobOf, ticks, mask, bit}
+use Rattle.model.specs.Plan.{start, Keeps, Holds, KeepsDelays, KeepsStations, Valid, stayIn, stay, finish, latency}
+use Rattle.model.specs.Finish.{Padded, inBatch}
+use Rattle.model.specs.Clash.{Clash, clashing, distances, clashesOf, clashes}
+use Rattle.model.specs.Starts.{leastStarts}
+use Rattle.model.specs.Search.{Place, turned, inequalities, startsAt, prunes, becomeBest, branch, back, firstMet, visit, next, placeOf, searchOf, freshSearch, node, nodesOn, nodes, Ends}
+use Rattle.model.proofs.BoolLaws.{same-test, T-true}
+use Rattle.model.proofs.ListLaws.{count-some}
+use Rattle.model.proofs.SeqLaws.{listed-cong}
+use Rattle.model.proofs.BitLaws.{bit-none}
+use Rattle.model.proofs.FinishLaws.{last}
+use Rattle.model.proofs.ClashLaws.{Shared, clashing-shared, shared-clashing}
+
+-- a tick of the first table that is not empty is one of the second
+stay-below : (job job′ : Job) (p q : ℕ) → ((a : ℕ) → a < p → (getD (job .masks) a 0 ≡ 0 → ⊥) → (a < q) × (getD (job′ .masks) a 0 ≡ 0 → ⊥)) → stayIn job p ≤ stayIn job′ q
+stay-below job job′ p q h = go (stayIn job p) refl
+  where
+    go : (k : ℕ) → stayIn job p ≡ k → stayIn job p ≤ stayIn job′ q
+    go zero e = omega arith
+    go (suc a) e = side (h a (omega (arith, last job p .most)) (last job p .here a e)) (decLt a (stayIn job′ q))
+      where
+        side : (a < q) × (getD (job′ .masks) a 0 ≡ 0 → ⊥) → Dec (a < stayIn job′ q) → stayIn job p ≤ stayIn job′ q
+        side g (yes l) = omega arith
+        side g (no l) = absurd (g .1 (last job′ q .past a (g .0) (omega arith)))
+
+joined-cong : {A B : Type 0} (f g : A → List B) (xs : List A) → ((x : A) → List·Memᴰ x xs → f x ≡ g x) → joined f xs ≡ joined g xs
+unfolding joined
+joined-cong f g [] h = refl
+joined-cong f g (x ∷ xs) h = rw (h x (List·Memᴰ·head refl), joined-cong f g xs (λ y m. h y (List·Memᴰ·tail m)))
+
+module _ (b b′ : Batch) (p : Padded b b′) where
+  -- ---- clashes
+
+  -- a tick that holds a station is one of the shorter table
+  inside : (i a s : ℕ) → i < b .n → a < ticks b′ i → bit (mask b′ i a) s ≡ true → a < ticks b i
+  inside i a s h g t = go (decLt a (ticks b i))
+    where
+      go : Dec (a < ticks b i) → a < ticks b i
+      go (yes l) = l
+      go (no l) = absurd (bit-none (mask b′ i a) s (p .added i a h (omega arith) g) t)
+
+  shared-less : (i j : ℕ) (d : ℤ) → i < b .n → j < b .n → Shared b′ i j d → Shared b i j d
+  shared-less i j d h g s =
+      let a-in = inside i (s .a) (s .s) h (s .a-in) (s .first) in
+      let b-in = inside j (s .b) (s .s) g (s .b-in) (s .second) in
+      record {
+        a = s .a;
+        b = s .b;
+        s = s .s;
+        a-in = a-in;
+        b-in = b-in;
+        s-in = s .s-in;
+        distance = s .distance;
+        first = rw (p .same i (s .a) h a-in) at (s .first);
+        second = rw (p .same j (s .b) g b-in) at (s .second);
+      }
+
+  shared-more : (i j : ℕ) (d : ℤ) → i < b .n → j < b .n → Shared b i j d → Shared b′ i j d
+  shared-more i j d h g s =
+      record {
+        a = s .a;
+        b = s .b;
+        s = s .s;
+        a-in = omega (arith, s .a-in, p .longer i h);
+        b-in = omega (arith, s .b-in, p .longer j g);
+        s-in = s .s-in;
+        distance = s .distance;
+        first = rw (p .same i (s .a) h (s .a-in)) (s .first);
+        second = rw (p .same j (s .b) g (s .b-in)) (s .second);
+      }
+
+  clashing-same : (i j : ℕ) → i < b .n → j < b .n → (d : ℤ) → clashing b′ i j d ≡ clashing b i j d
+  clashing-same i j h g d =
+      same-test (clashing b′ i j d) (clashing b i j d) (λ e. shared-clashing b i j d (shared-less i j d h g (clashing-shared b′ i j d e)))
+      (λ e. shared-clashing b′ i j d (shared-more i j d h g (clashing-shared b i j d e)))
+
+  clashes-of : (i j : ℕ) → i < b .n → j < b .n → clashesOf b′ i j ≡ clashesOf b i j
+  unfolding clashesOf
+  clashes-of i j h g = λ z. map (λ d. record { i = i; j = j; d = d }) (keep (λ d. clashing-same i j h g d z) distances)
+
+  -- so D and every clash's number stay
+  pub padded-clashes : clashes b′ ≡ clashes b
+  unfolding clashes
+  padded-clashes =
+      ap (λ (n : ℕ). joined (λ i. joined (clashesOf b′ i) (count (suc i) (n - suc i))) (count 0 n)) (p .jobs)
+      ∙ joined-cong _ _ (count 0 (b .n)) (λ i m.
+      joined-cong _ _ (count (suc i) (b .n - suc i)) (λ j k.
+      let h = count-some 0 (b .n) i m in
+      let g = count-some (suc i) (b .n - suc i) j k in
+      clashes-of i j (omega (arith, h .1)) (omega (arith, h .1, g .1))))
+
+  -- ---- latency
+
+  stay-same : (i : ℕ) → i < b .n → stay (jobOf b′ i) ≡ stay (jobOf b i)
+  unfolding stay ticks mask
+  stay-same i h =
+      let less = stay-below (jobOf b′ i) (jobOf b i) (ticks b′ i) (ticks b i) (λ a l t.
+      let g = kept a l t in (g, λ z. t (p .same i a h g ∙ z))) in
+      let more = stay-below (jobOf b i) (jobOf b′ i) (ticks b i) (ticks b′ i) (λ a l t. (omega (arith, p .longer i h), λ z. t (sym (p .same i a h l) ∙ z))) in
+      omega (arith, less, more)
+    where
+      kept : (a : ℕ) → a < ticks b′ i → (mask b′ i a ≡ 0 → ⊥) → a < ticks b i
+      kept a l t = go (decLt a (ticks b i))
+        where
+          go : Dec (a < ticks b i) → a < ticks b i
+          go (yes g) = g
+          go (no g) = absurd (t (p .added i a h (omega arith) l))
+
+  pub padded-latency : (ts : List ℕ) → latency b′ ts ≡ latency b ts
+  unfolding latency finish
+  padded-latency ts =
+      ap (λ (n : ℕ). foldr max 0 (map (λ i. finish b′ i (start ts i)) (count 0 n))) (p .jobs)
+      ∙ ap (foldr max 0) (listed-cong _ _ (b .n) (λ i h. ap (λ (k : ℕ). start ts i + k) (stay-same i h)))
+
+  -- ---- validity
+
+  holds-less : (ts : List ℕ) (i s x : ℕ) → i < b .n → Holds b′ ts i s x → Holds b ts i s x
+  unfolding Holds
+  holds-less ts i s x h t =
+      let l = inside i (t .0) s h (t .1) (T-true _ (t .3)) in
+      (t .0, l, t .2, subst (λ (m : ℕ). T (bit m s)) (p .same i (t .0) h l) (t .3))
+
+  holds-more : (ts : List ℕ) (i s x : ℕ) → i < b .n → Holds b ts i s x → Holds b′ ts i s x
+  unfolding Holds
+  holds-more ts i s x h t = (t .0, omega (arith, t .1, p .longer i h), t .2, subst (λ (m : ℕ). T (bit m s)) (sym (p .same i (t .0) h (t .1))) (t .3))
+
+  pub padded-valid : (ts : List ℕ) → Valid b′ ts ↔ Valid b ts
+  unfolding KeepsDelays KeepsStations
+  padded-valid ts = (
+    λ v.
+        record {
+          starts = v .starts ∙ p .jobs;
+          delays = subst (λ (qs : List Delay). (q : Delay) → List·Memᴰ q qs → Keeps ts q) (p .delays) (v .delays);
+          stations = λ i j s x r l q h g. v .stations i j s x r (omega (arith, p .jobs)) q (holds-more ts i s x (omega arith) h) (holds-more ts j s x l g);
+        },
+    λ v.
+        record {
+          starts = v .starts ∙ sym (p .jobs);
+          delays = subst (λ (qs : List Delay). (q : Delay) → List·Memᴰ q qs → Keeps ts q) (sym (p .delays)) (v .delays);
+          stations = λ i j s x r l q h g.
+              let in-b : j < b .n = omega (arith, p .jobs) in
+              v .stations i j s x r in-b q (holds-less ts i s x (omega arith) h) (holds-less ts j s x in-b g);
+        },
+  )
+
+  -- ---- the search
+
+  starts-same : (cs : List Clash) (ts : List Turn) → startsAt cs b′ ts ≡ startsAt cs b ts
+  unfolding startsAt inequalities
+  starts-same cs ts = ap₂ (λ (n : ℕ) (qs : List Delay). leastStarts n (qs ++ map (turned cs) ts)) (p .jobs) (p .delays)
+
+  branch-same : (q : Place) (ss : List ℕ) (o : Option ℕ) → branch b′ q ss o ≡ branch b q ss o
+  unfolding branch becomeBest
+  branch-same q ss none = rw (padded-latency ss)
+  branch-same q ss (some k) = refl
+
+  visit-same : (cs : List Clash) (q : Place) (o : Option (List ℕ)) → visit cs b′ q o ≡ visit cs b q o
+  unfolding visit
+  visit-same cs q none = refl
+  visit-same cs q (some ss) =
+      ap₂ (λ (l : ℕ) (r : Place). if prunes (q .incumbent .best) l then back (q .turns) (q .incumbent) else r) (padded-latency ss) (branch-same q ss (firstMet cs ss 0))
+
+  next-same : (cs : List Clash) (q : Place) → next cs b′ q ≡ next cs b q
+  unfolding next
+  next-same cs q = visit-same cs q (startsAt cs b′ (q .turns)) ∙ ap (visit cs b q) (starts-same cs (q .turns))
+
+  node-same : (cs : List Clash) (s : Search) → s .batch ≡ b → (node cs (inBatch b′ s) ≡ inBatch b′ (node cs s)) × (node cs s .batch ≡ b)
+  unfolding node searchOf placeOf inBatch
+  node-same cs s e = (ap (searchOf b′ (s .total + 1)) (next-same cs (placeOf s) ∙ ap (λ (c : Batch). next cs c (placeOf s)) (sym e)), e)
+
+  nodes-same : (cs : List Clash) (k : ℕ) (s : Search) → s .batch ≡ b → nodesOn cs k (inBatch b′ s) ≡ inBatch b′ (nodesOn cs k s)
+  unfolding nodesOn inBatch
+  nodes-same cs zero s e = refl
+  nodes-same cs (suc k) s e = go (s .ended) (node-same cs s e) (nodes-same cs k (node cs s))
+    where
+      go : (t : Bool) → (node cs (inBatch b′ s) ≡ inBatch b′ (node cs s)) × (node cs s .batch ≡ b)
+          → (node cs s .batch ≡ b → nodesOn cs k (inBatch b′ (node cs s)) ≡ inBatch b′ (nodesOn cs k (node cs s)))
+          → _≡_ {A = Search} (elim t [ true ↦ inBatch b′ s | false ↦ nodesOn cs k (node cs (inBatch b′ s)) ]) (inBatch b′ (elim t [ true ↦ s | false ↦ nodesOn cs k (node cs s) ]))
+      go true one rec = refl
+      go false one rec = ap (nodesOn cs k) (one .0) ∙ rec (one .1)
+
+  -- after any number of nodes the padded search stands where the other does
+  pub padded-nodes : (k : ℕ) → nodes k (freshSearch b′) ≡ inBatch b′ (nodes k (freshSearch b))
+  unfolding nodes freshSearch searchOf inBatch
+  padded-nodes k = ap (λ (cs : List Clash). nodesOn cs k (freshSearch b′)) padded-clashes ∙ nodes-same (clashes b) k (freshSearch b) refl
+
+  -- so N is the same
+  pub padded-ends : (N : ℕ) → Ends b′ N ↔ Ends b N
+  unfolding inBatch
+  padded-ends N = (
+    λ e. record { ended = ap (λ (s : Search). s .ended) (sym (padded-nodes N)) ∙ e .ended; total = ap (λ (s : Search). s .total) (sym (padded-nodes N)) ∙ e .total },
+    λ e. record { ended = ap (λ (s : Search). s .ended) (padded-nodes N) ∙ e .ended; total = ap (λ (s : Search). s .total) (padded-nodes N) ∙ e .total },
+  )
