@@ -147,8 +147,8 @@ def table_changes(rng, job, p):
 
 
 def changed_tables(rng, batch):
-    """Searches that go on after the tables of two jobs changed, each job's in the same way: it finishes earlier, or
-    later, or just does not."""
+    """Searches that go on after the tables of two jobs changed, each job's in the same way: so that it finishes earlier,
+    later, or when it did."""
     jobs, _ = read_file(batch.data)
     pair = [rng.randrange(batch.n) for _ in range(2)]
     for (name, first), (_, second) in zip(*(list(table_changes(rng, job, len(jobs[job]))) for job in pair)):

@@ -84,9 +84,9 @@ fn latency_of(batch: Batch, starts: &[u16; 24]) -> usize
     let mut latest: usize = 0;
     let mut i: usize = 0;
     while i < n {
-        let end = wide16(starts[i]) + wide(stays[i]);
-        if latest < end {
-            latest = end;
+        let finish = wide16(starts[i]) + wide(stays[i]);
+        if latest < finish {
+            latest = finish;
         }
         i = i + 1;
     }

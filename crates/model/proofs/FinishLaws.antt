@@ -1,8 +1,8 @@
 -- How long a job stays, and what that makes of the latency: no start passes it, it rises with the starts, and it is the tick from which on no job
 -- holds a station, or the last start of a job that holds none.
 use Prim.Native.Nat.{ℕ, zero, suc, _+_, _≤_, _<_, max}
-use mathlib.Core.Path.{_≡_, refl, ap, sym, _∙_}
-use mathlib.Core.Logic.{_⊎_, inl, inr, ⊎-elim, _↔_}
+use mathlib.Core.Path.{_≡_, refl, ap, sym, _∙_, subst}
+use mathlib.Core.Logic.{_⊎_, ⊎-elim, _↔_}
 use mathlib.Core.Bool.{Bool, true, false}
 use mathlib.Core.List.{List, [], _∷_, map, foldr, List·Memᴰ, List·Memᴰ·head, List·Memᴰ·tail, List·Memᴰ·not-nil, List·Memᴰ·cases-cons}
 use native.Mathlib.Omega.{arith}
@@ -16,7 +16,7 @@ use Rattle.model.specs.declared.Batch.{Batch}
 use Rattle.model.specs.Common.{count, if_then_else_}
 use Rattle.model.specs.Batch.{jobOf, ticks, mask}
 use Rattle.model.specs.Plan.{start, Holds, stayIn, stay, finish, latency}
-use Rattle.model.specs.Finish.{Empty, LetGo, EmptyAt, Over}
+use Rattle.model.specs.Finish.{Empty, Over, FirstOver}
 use Rattle.model.specs.Format.{Within}
 use Rattle.model.proofs.BoolLaws.{T-true, true-T}
 use Rattle.model.proofs.ListLaws.{count-some, some-count}
@@ -36,16 +36,6 @@ largest-bound f most (x ∷ xs) h =
 largest-in : (f : ℕ → ℕ) (xs : List ℕ) (x : ℕ) → List·Memᴰ x xs → f x ≤ foldr max 0 (map f xs)
 largest-in f [] x m = absurd (List·Memᴰ·not-nil m)
 largest-in f (y ∷ xs) x m = ⊎-elim (λ e. omega (arith, ap f e)) (λ n. omega (arith, largest-in f xs x n)) (List·Memᴰ·cases-cons m)
-
--- of one item or more, one is the largest
-largest-of : (f : ℕ → ℕ) (x : ℕ) (xs : List ℕ) → (y : ℕ) × List·Memᴰ y (x ∷ xs) × (foldr max 0 (map f (x ∷ xs)) ≡ f y)
-largest-of f x [] = (x, List·Memᴰ·head refl, omega arith)
-largest-of f x (y ∷ ys) = go (largest-of f y ys) (decLt (f x) (foldr max 0 (map f (y ∷ ys))))
-  where
-    go : (z : ℕ) × List·Memᴰ z (y ∷ ys) × (foldr max 0 (map f (y ∷ ys)) ≡ f z) → Dec (f x < foldr max 0 (map f (y ∷ ys)))
-        → (z : ℕ) × List·Memᴰ z (x ∷ y ∷ ys) × (foldr max 0 (map f (x ∷ y ∷ ys)) ≡ f z)
-    go r (yes h) = (r .0, List·Memᴰ·tail (r .1), omega (arith, r .2))
-    go r (no h) = (x, List·Memᴰ·head refl, omega arith)
 
 -- ---- a job's stay
 
@@ -118,17 +108,6 @@ pub latency-most : (b : Batch) (ts : List ℕ) (most : ℕ) → ((i : ℕ) → i
 unfolding latency finish
 latency-most b ts most h = largest-bound (λ i. finish b i (start ts i)) most (count 0 (b .n)) (λ i m. h i (omega (arith, count-some 0 (b .n) i m .1)))
 
--- it is one of the finishes
-latency-some : (b : Batch) (ts : List ℕ) → 1 ≤ b .n → (i : ℕ) × (i < b .n) × (latency b ts ≡ start ts i + stay (jobOf b i))
-unfolding latency finish count
-latency-some b ts few = go (b .n) few
-  where
-    go : (n : ℕ) → 1 ≤ n → (i : ℕ) × (i < n) × (foldr max 0 (map (λ i. finish b i (start ts i)) (count 0 n)) ≡ start ts i + stay (jobOf b i))
-    go zero h = absurd (omega arith)
-    go (suc n) h =
-        let r = largest-of (λ i. finish b i (start ts i)) 0 (count 1 n) in
-        (r .0, omega (arith, count-some 0 (suc n) (r .0) (r .1) .1), r .2)
-
 -- ---- what a customer reads out of it
 
 module _ (b : Batch) (w : Within b) (ts : List ℕ) where
@@ -141,46 +120,29 @@ module _ (b : Batch) (w : Within b) (ts : List ℕ) where
       go (yes l) = omega (arith, h .2)
       go (no l) = absurd (bit-none (mask b i (h .0)) s (last (jobOf b i) (ticks b i) .past (h .0) (h .1) (omega arith)) (T-true _ (h .3)))
 
-  -- a job without a stay holds nothing, and starts when it finishes; any other holds a station in the tick before it finishes
-  at-finish : (i x : ℕ) → i < b .n → x ≡ start ts i + stay (jobOf b i) → LetGo b ts x ⊎ EmptyAt b ts x
-  unfolding Holds Empty stay ticks mask
-  at-finish i x h e = go (stay (jobOf b i)) refl
-    where
-      l : Last (jobOf b i) (ticks b i)
-      l = last (jobOf b i) (ticks b i)
+  over-at : Over b ts (latency b ts)
+  over-at =
+      record {
+        held = λ i s y h p t. omega (arith, held-before i s y t, finish-latency b ts i h);
+        empty = λ i h t. omega (arith, finish-latency b ts i h);
+      }
 
-      go : (k : ℕ) → stay (jobOf b i) ≡ k → LetGo b ts x ⊎ EmptyAt b ts x
-      go zero z =
-          inr (record { job = i; job-in = h; empty = λ a s p q t. bit-none (mask b i a) s (l .past a p (omega arith)) (T-true _ t); starts = omega arith })
-      go (suc a) z =
+  -- a job without a stay holds nothing, and any other holds a station in the tick before it finishes
+  over-least : (x : ℕ) → Over b ts x → latency b ts ≤ x
+  unfolding Holds Empty stay ticks mask
+  over-least x o = latency-most b ts x (λ i h. go i h (stay (jobOf b i)) refl)
+    where
+      go : (i : ℕ) → i < b .n → (k : ℕ) → stay (jobOf b i) ≡ k → start ts i + stay (jobOf b i) ≤ x
+      go i h zero z = omega (arith, o .empty i h (λ a s p q t. bit-none (mask b i a) s (last (jobOf b i) (ticks b i) .past a p (omega arith)) (T-true _ t)))
+      go i h (suc a) z =
+          let l = last (jobOf b i) (ticks b i) in
           let inside : a < ticks b i = omega (arith, l .most) in
           let s = bit-some 16 (mask b i a) (w .masks-each i a h inside) (l .here a z) in
-          inl
-          (record { job = i; station = s .0; tick = start ts i + a; job-in = h; station-in = s .1; holds = (a, inside, refl, true-T (s .2)); before = omega arith })
+          omega (arith, o .held i (s .0) (start ts i + a) h (s .1) (a, inside, refl, true-T (s .2)))
 
-  -- the latency is x exactly when all is over in tick x and not before
-  pub latency-over : (x : ℕ) → (latency b ts ≡ x) ↔ Over b ts x
-  latency-over x = (to, from)
-    where
-      to : latency b ts ≡ x → Over b ts x
-      to e =
-          let r = latency-some b ts (w .jobs .0) in
-          record {
-            held = λ i s y h p t. omega (arith, held-before i s y t, finish-latency b ts i h);
-            empty = λ i h t. omega (arith, finish-latency b ts i h);
-            first = at-finish (r .0) x (r .1) (sym e ∙ r .2);
-          }
-
-      from : Over b ts x → latency b ts ≡ x
-      from o = omega (arith, latency-most b ts x below, ⊎-elim let-go empty-at (o .first))
-        where
-          below : (i : ℕ) → i < b .n → start ts i + stay (jobOf b i) ≤ x
-          below i h =
-              ⊎-elim (λ g. omega (arith, o .held (g .job) (g .station) (g .tick) (g .job-in) (g .station-in) (g .holds), g .before))
-              (λ g. omega (arith, o .empty (g .job) (g .job-in) (g .empty), g .starts)) (at-finish i _ h refl)
-
-          let-go : LetGo b ts x → x ≤ latency b ts
-          let-go g = omega (arith, g .before, held-before (g .job) (g .station) (g .tick) (g .holds), finish-latency b ts (g .job) (g .job-in))
-
-          empty-at : EmptyAt b ts x → x ≤ latency b ts
-          empty-at g = omega (arith, g .starts, finish-latency b ts (g .job) (g .job-in))
+  -- the latency is the first tick in which all is over
+  pub latency-over : (x : ℕ) → (latency b ts ≡ x) ↔ FirstOver b ts x
+  latency-over x = (
+    λ e. record { over = subst (Over b ts) e over-at; first = λ y o. omega (arith, over-least y o) },
+    λ o. omega (arith, over-least x (o .over), o .first (latency b ts) over-at),
+  )

@@ -19,7 +19,6 @@ pub mod GoodLaws
 pub mod BoundLaws
 pub mod UnderLaws
 pub mod EndLaws
-pub mod PaddedLaws
 pub mod SoundLaws
 pub mod LeaveLaws
 pub mod CallLaws
@@ -31,5 +30,6 @@ pub mod FileLaws
 pub mod OpenLaws
 pub mod ClaimLaws
 pub mod JudgeLaws
+pub mod PaddedLaws
 pub mod PinLaws
 pub mod ProgramLaws

@@ -2,31 +2,41 @@
 use Prim.Native.Nat.{ℕ, zero, suc, _+_, _-_, _≤_, _<_, max}
 use mathlib.Core.Path.{_≡_, refl, ap, ap₂, sym, _∙_, subst}
 use mathlib.Core.Logic.{_↔_}
-use mathlib.Core.Bool.{Bool, true, false}
+use mathlib.Core.Bool.{Bool, true, false, _&&_, _||_, not}
 use mathlib.Core.Option.{Option, none, some}
 use mathlib.Core.List.{List, [], _∷_, _++_, map, foldr, List·Memᴰ, List·Memᴰ·head, List·Memᴰ·tail}
 use native.Mathlib.Omega.{arith}
 use native.Mathlib.Decide.{decLt}
-use lib.ListN.{getD}
+use lib.ListN.{getD, length, drop}
 use lib.IntN.{ℤ}
-use lib.Dec.{T}
+use lib.Dec.{T, leb, eqb}
 use Rattle.model.specs.declared.Delay.{Delay}
 use Rattle.model.specs.declared.Job.{Job}
 use Rattle.model.specs.declared.Turn.{Turn}
 use Rattle.model.specs.declared.Batch.{Batch}
 use Rattle.model.specs.declared.Search.{Search}
-use Rattle.model.specs.Common.{count, keep, joined, if_then_else_}
+use Rattle.model.specs.declared.Ran.{Ran}
+use Rattle.model.specs.Common.{count, all, keep, joined, isEmpty, isSome, if_then_else_, Outcome, refuse, accept, _>>=_, require}
+use Rattle.model.specs.Limits.{mostClashes, mostBudget, mostTotal}
 use Rattle.model.specs.Batch.{jobOf, ticks, mask, bit}
 use Rattle.model.specs.Plan.{start, Keeps, Holds, KeepsDelays, KeepsStations, Valid, stayIn, stay, finish, latency}
-use Rattle.model.specs.Finish.{Padded, inBatch}
+use Rattle.model.specs.Padded.{Padded, inBatch}
 use Rattle.model.specs.Clash.{Clash, clashing, distances, clashesOf, clashes}
-use Rattle.model.specs.Starts.{leastStarts}
-use Rattle.model.specs.Search.{Place, turned, inequalities, startsAt, prunes, becomeBest, branch, back, firstMet, visit, next, placeOf, searchOf, freshSearch, node, nodesOn, nodes, Ends}
+use Rattle.model.specs.Starts.{same, leastStarts}
+use Rattle.model.specs.Search.{Place, turned, inequalities, startsAt, prunes, becomeBest, branch, back, firstMet, visit, next, placeOf, searchOf, isTurn, turnsOf, freshSearch, node, nodesOn, nodes, Ends}
+use Rattle.model.specs.Open.{fewClashes, delaysMet, readFile, openFile, openedAs, opened}
+use Rattle.model.specs.Sound.{soundBatch, soundTurns, soundPath, soundBest, sound}
+use Rattle.model.specs.Run.{runRefusal, ranAs, ran, answered, answerOf, startsAfter}
+use Rattle.model.specs.Calls.{Call, call, after}
+use Rattle.model.specs.Text.{planLines, planText}
+use Rattle.model.specs.Answers.{openTold}
+use Rattle.model.specs.Judge.{jobsIn, startsIn, readClaim, as17, jobsRight, keeps, valid, planRight, judgeText, judge, judgedAs, judged}
 use Rattle.model.proofs.BoolLaws.{same-test, T-true}
 use Rattle.model.proofs.ListLaws.{count-some}
 use Rattle.model.proofs.SeqLaws.{listed-cong}
 use Rattle.model.proofs.BitLaws.{bit-none}
 use Rattle.model.proofs.FinishLaws.{last}
+use Rattle.model.proofs.LeaveLaws.{nodes-batch, running-leaves}
 use Rattle.model.proofs.ClashLaws.{Shared, clashing-shared, shared-clashing}
 
 -- a tick of the first table that is not empty is one of the second
@@ -209,3 +219,104 @@ module _ (b b′ : Batch) (p : Padded b b′) where
     λ e. record { ended = ap (λ (s : Search). s .ended) (sym (padded-nodes N)) ∙ e .ended; total = ap (λ (s : Search). s .total) (sym (padded-nodes N)) ∙ e .total },
     λ e. record { ended = ap (λ (s : Search). s .ended) (padded-nodes N) ∙ e .ended; total = ap (λ (s : Search). s .total) (padded-nodes N) ∙ e .total },
   )
+
+  -- ---- files that both are read
+
+  few-same : fewClashes b′ ≡ fewClashes b
+  unfolding fewClashes
+  few-same = ap (λ (cs : List Clash). leb (length cs) mostClashes) padded-clashes
+
+  met-same : delaysMet b′ ≡ delaysMet b
+  unfolding delaysMet
+  met-same = ap₂ (λ (n : ℕ) (qs : List Delay). isSome (leastStarts n qs)) (p .jobs) (p .delays)
+
+  judge-same : (text : List ℕ) → judgeText b′ text ≡ judgeText b text
+  unfolding judgeText jobsRight planRight valid
+  judge-same text =
+      λ z.
+      as17 (readClaim text) >>= λ c.
+      require 18 (eqb (c .n) (p .jobs z) && same (jobsIn c) (count 0 (p .jobs z))) >>= λ u.
+      require 19 (all (keeps (startsIn c)) (p .delays z) && not (isSome (firstMet (padded-clashes z) (startsIn c) 0)) && eqb (padded-latency (startsIn c) z) (c .latency))
+
+  module _ (file file′ : List ℕ) (read : readFile file ≡ accept b) (read′ : readFile file′ ≡ accept b′) where
+    abbrev opening : Bool → Bool → Batch → Outcome Batch
+    opening few met c = require 9 few >>= λ u. require 10 met >>= λ v. accept c
+
+    open-at : (x : List ℕ) (c : Batch) → readFile x ≡ accept c → openFile x ≡ opening (fewClashes c) (delaysMet c) c
+    unfolding openFile _>>=_
+    open-at x c e = ap (λ (o : Outcome Batch). o >>= λ c. opening (fewClashes c) (delaysMet c) c) e
+
+    -- what is the same of both batches is the same of what opening gives
+    alike : {A : Type 0} (f : Outcome Batch → A) → f (accept b′) ≡ f (accept b) → f (openFile file′) ≡ f (openFile file)
+    unfolding require _>>=_
+    alike f h =
+        ap f (open-at file′ b′ read′) ∙ ap₂ (λ (few met : Bool). f (opening few met b′)) few-same met-same ∙ go (fewClashes b) (delaysMet b) ∙ sym (ap f (open-at file b read))
+      where
+        go : (few met : Bool) → f (opening few met b′) ≡ f (opening few met b)
+        go true true = h
+        go true false = refl
+        go false met = refl
+
+    -- both open, or both are refused with the same number
+    pub padded-opened : openTold (opened file′ .answer) ≡ openTold (opened file .answer)
+    unfolding opened openedAs
+    padded-opened = alike (λ o. openTold (openedAs o .answer)) refl
+
+    -- and every plan text is judged alike
+    pub padded-judged : (text : List ℕ) → judged file′ text ≡ judged file text
+    unfolding judged judge _>>=_
+    padded-judged text = alike (λ o. judgedAs (o >>= λ c. judgeText c text)) (ap judgedAs (judge-same text))
+
+  -- ---- runs on records whose batches are both sound, or both not
+
+  module _ (both : soundBatch b′ ≡ soundBatch b) (s : Search) (e : s .batch ≡ b) where
+    abbrev n-same : b′ .n ≡ s .batch .n
+    n-same = p .jobs ∙ ap (λ (c : Batch). c .n) (sym e)
+
+    sound-same : sound (inBatch b′ s) ≡ sound s
+    unfolding sound soundPath inBatch
+    sound-same =
+        let d : length (clashes b′) ≡ length (clashes (s .batch)) = ap length (padded-clashes ∙ ap clashes (sym e)) in
+        let q : soundBatch b′ ≡ soundBatch (s .batch) = both ∙ ap soundBatch (sym e) in
+        let turns = turnsOf (s .path) in
+        λ z.
+        q z && (soundTurns (d z) turns && all (λ t. not (isTurn t)) (drop (length turns) (s .path)) && (not (s .ended) || isEmpty turns)) && leb (s .total) mostTotal
+        && soundBest (n-same z) (s .best) (s .starts)
+
+    pub padded-text : planText (inBatch b′ s) ≡ planText s
+    unfolding planText inBatch
+    padded-text = λ z. require 12 (sound-same z) >>= λ u. require 15 (s .ended) >>= λ v. accept (planLines (s .best) (n-same z) (s .starts) (s .total))
+
+    padded-refusal : (budget len : ℕ) → runRefusal (inBatch b′ s) budget len ≡ runRefusal s budget len
+    unfolding runRefusal inBatch
+    padded-refusal budget len = λ z. require 11 (leb budget mostBudget) >>= λ u. require 12 (sound-same z) >>= λ v. require 13 (leb (n-same z) len) >>= λ w. require 14 (s .ended || leb (s .total + budget) mostTotal)
+
+    nodes-moved : (k : ℕ) → nodes k (inBatch b′ s) ≡ inBatch b′ (nodes k s)
+    unfolding nodes inBatch
+    nodes-moved k = ap (λ (cs : List Clash). nodesOn cs k (inBatch b′ s)) (padded-clashes ∙ ap clashes (sym e)) ∙ nodes-same (clashes (s .batch)) k s e
+
+    -- a run answers the same, leaves the same list, and the record that it returns is the same but for the batch
+    pub padded-call : (c : Call) → call (inBatch b′ s) c ≡ (record { answer = call s c .0 .answer; search = inBatch b′ (call s c .0 .search) }, call s c .1)
+    unfolding call ran ranAs answered nodes inBatch
+    padded-call c =
+        ap (λ (o : Outcome (Unit {0})). ranAs o (inBatch b′ s) (c .budget) (c .starts)) (padded-refusal (c .budget) (length (c .starts)))
+        ∙ go (runRefusal s (c .budget) (length (c .starts)))
+      where
+        go : (o : Outcome (Unit {0})) → ranAs o (inBatch b′ s) (c .budget) (c .starts)
+            ≡ (record { answer = ranAs o s (c .budget) (c .starts) .0 .answer; search = inBatch b′ (ranAs o s (c .budget) (c .starts) .0 .search) }, ranAs o s (c .budget) (c .starts) .1)
+        go (refuse k) = refl
+        go (accept u) =
+            let t = nodes (c .budget) s in
+            let kept : b′ .n ≡ t .batch .n = n-same ∙ ap (λ (x : Batch). x .n) (sym (nodes-batch (clashes (s .batch)) (c .budget) s)) in
+            let a = answerOf (t .ended) (t .best) (t .total) in
+            ap (λ (x : Search). answered x (c .starts)) (nodes-moved (c .budget))
+            ∙ ap (λ (n : ℕ). (record { answer = a; search = inBatch b′ t }, startsAfter a n (t .starts) (c .starts))) kept
+
+  -- and so after every list of runs
+  pub padded-after : soundBatch b′ ≡ soundBatch b → (cs : List Call) (s : Search) → s .batch ≡ b → (after (inBatch b′ s) cs ≡ inBatch b′ (after s cs)) × (after s cs .batch ≡ b)
+  unfolding after call
+  padded-after both [] s e = (refl, e)
+  padded-after both (c ∷ cs) s e =
+      let one = padded-call both s e c in
+      let rest = padded-after both cs (call s c .0 .search) (running-leaves s (c .budget) (c .starts) .batch ∙ e) in
+      (ap (λ (x : Ran × List ℕ). after (x .0 .search) cs) one ∙ rest .0, rest .1)

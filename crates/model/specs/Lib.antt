@@ -7,6 +7,7 @@ pub mod Finish
 pub mod Clash
 pub mod Starts
 pub mod Search
+pub mod Padded
 pub mod Line
 pub mod Format
 pub mod Open

@@ -103,7 +103,7 @@ rows =
     ∷ opens "A0010302 A1010001 A1010002 A1010004 A200010005 A20102FFFE" once 1 (planAt 6 1 (0 ∷ 5 ∷ 3 ∷ []) ∷ [])
     -- four jobs: the order in which clashes are branched on
     ∷ opens "A0010400 A10200010004 A1010002 A1010002 A10200010003" once 5 (planAt 3 5 (0 ∷ 0 ∷ 1 ∷ 1 ∷ []) ∷ [])
-    -- the same with that tick empty: the padded job finishes earlier, and fewer nodes are at or above best
+    -- the same with job 0's last tick empty: side 1 of the first turn then has a latency below best's, and is branched on
     ∷ opens "A0010400 A10200010000 A1010002 A1010002 A10200010003" once 7 (planAt 3 7 (0 ∷ 0 ∷ 1 ∷ 1 ∷ []) ∷ [])
     -- empty ticks at a table's end do not count, so that the padded job may go second; those before a non-empty one do
     ∷ opens "A0010200 A103000100000000 A10200010002" once 3 (planAt 2 3 (1 ∷ 0 ∷ []) ∷ [])

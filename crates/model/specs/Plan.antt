@@ -48,11 +48,11 @@ stayIn job (suc a) = if eqb (getD (job .masks) a 0) 0 then stayIn job a else suc
 unfoldable pub stay : Job → ℕ
 stay job = stayIn job (job .ticks)
 
--- t_i plus the number of job i's last non-empty tick plus 1; t_i where it holds no station (02, Q-3)
+-- t_i plus the number of job i's last non-empty tick plus 1; t_i where it holds no station (02, Q-3). A completion time
 unfoldable pub finish : Batch → ℕ → ℕ → ℕ
 finish b i t = t + stay (jobOf b i)
 
--- the largest finish, 0 included
+-- the largest finish, 0 included (the makespan)
 unfoldable pub latency : Batch → List ℕ → ℕ
 latency b ts = foldr max 0 (map (λ i. finish b i (start ts i)) (count 0 (b .n)))
 

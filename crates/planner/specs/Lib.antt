@@ -1,3 +1,4 @@
 -- The demands, and the change requests that landed, as statements about what the public calls return.
 pub mod Demands
 pub mod Judging
+pub mod Finish

@@ -41,8 +41,8 @@ fn bound_of(best: Best) -> u16
     least
 }
 
-// The least starts of a node and their latency, in place of starts that are all 0, if there are any and they end below best. If not, false, and what
-// is left in their place means nothing. The clashes, the pairs and the turns are there for the contract alone.
+// The least starts of a node and their latency, in place of starts that are all 0, if there are any and their latency is below best's. If not,
+// false, and what is left in their place means nothing. The clashes, the pairs and the turns are there for the contract alone.
 fn reach(
     walk: Walk,
     sizes: Sizes,

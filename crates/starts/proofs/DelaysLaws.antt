@@ -1,4 +1,4 @@
--- Reading a batch: what a loop over its delays or jobs has tested, coded and copied, and the arrays after it.
+-- Reading a batch's delays: what a loop over them has tested, coded and copied, and the arrays after it.
 use mathlib.Core.Path.{_≡_, refl, ap, _∙_}
 use mathlib.Core.Bool.{Bool, true, false, _&&_, not}
 use mathlib.Core.List.{List, map}

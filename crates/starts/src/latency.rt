@@ -20,7 +20,7 @@ pub fn stay_wide(x: u8) -> u16
     x as u16
 }
 
-// The largest of a latency and the ends of these starts.
+// The largest of a latency and the finishes of these starts.
 pub fn raised_latency(latency: u16, stays: &[u8; 24], starts: &[u16; 24]) -> u16
     requires { ⌜ Small (now stays) 16 × Small (now starts) 24016 ⌝ }
     ensures { λ r. ⌜ r ≡ raisedBy (now (stays .entry)) (now (starts .entry)) latency ⌝ }

@@ -18,7 +18,7 @@ pub fn read_delays_met(batch: Batch, delays: Delays) -> bool
     let from = delays.from;
     let to = delays.to;
     let code = delays.code;
-    let no_ticks = [0u8; 24];
+    let no_stays = [0u8; 24];
     let n = wide(batch.n);
     let m = wide(batch.m);
     let mut table = [[0u16; 24]; 24];
@@ -27,7 +27,7 @@ pub fn read_delays_met(batch: Batch, delays: Delays) -> bool
     let mut latest: u16 = 0;
     rounds(
         &table,
-        &no_ticks,
+        &no_stays,
         &mut starts,
         &mut latest,
         23017,

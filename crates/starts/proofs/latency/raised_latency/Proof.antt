@@ -1,4 +1,4 @@
--- `raised_latency` meets its contract. The loop's invariant: the largest of the latency and the ends of the first i places.
+-- `raised_latency` meets its contract. The loop's invariant: the largest of the latency and the finishes of the first i places.
 use borrow.Author.Needs.{needs}
 use native.Mathlib.Omega.{arith}
 use mathlib.Core.Path.{_≡_}
