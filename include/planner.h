@@ -122,9 +122,9 @@ typedef struct planner_record {
 
 /* ---- the answers */
 
-/* That a plan is the shortest valid one, and that no valid plan exists, holds for a record that planner_open made
- * and that nothing but planner_run has changed since. A sound record from elsewhere is answered as it stands: its
- * best is taken for a plan and its path for the part of the search that is done.
+/* That a plan is the shortest valid one, and that no valid plan exists, holds for a record that planner_open of this
+ * version made and that nothing but planner_run has changed since. A sound record from elsewhere is answered as it
+ * stands: its best is taken for a plan and its path for the part of the search that is done.
  *
  * These four are values of `kind`: with PLANNER_REFUSED, one of the PLANNER_REFUSAL_ numbers below stands in
  * `refusal`.
