@@ -146,3 +146,7 @@ module _ (b : Batch) (w : Within b) (ts : List ℕ) where
     λ e. record { over = subst (Over b ts) e over-at; first = λ y o. omega (arith, over-least y o) },
     λ o. omega (arith, over-least x (o .over), o .first (latency b ts) over-at),
   )
+
+-- there is one such tick
+pub over-pinned : (b : Batch) (ts : List ℕ) (x y : ℕ) → FirstOver b ts x → FirstOver b ts y → x ≡ y
+over-pinned b ts x y h g = omega (arith, h .first y (g .over), g .first x (h .over))

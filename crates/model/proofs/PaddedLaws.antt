@@ -9,7 +9,7 @@ use native.Mathlib.Omega.{arith}
 use native.Mathlib.Decide.{decLt}
 use lib.ListN.{getD, length, drop}
 use lib.IntN.{ℤ}
-use lib.Dec.{T, leb, eqb}
+use lib.Dec.{leb, eqb}
 use Rattle.model.specs.declared.Delay.{Delay}
 use Rattle.model.specs.declared.Job.{Job}
 use Rattle.model.specs.declared.Turn.{Turn}
@@ -18,7 +18,7 @@ use Rattle.model.specs.declared.Search.{Search}
 use Rattle.model.specs.declared.Ran.{Ran}
 use Rattle.model.specs.Common.{count, all, keep, joined, isEmpty, isSome, if_then_else_, Outcome, refuse, accept, _>>=_, require}
 use Rattle.model.specs.Limits.{mostClashes, mostBudget, mostTotal}
-use Rattle.model.specs.Batch.{jobOf, ticks, mask, bit}
+use Rattle.model.specs.Batch.{jobOf, ticks, mask, bit, delaysOf}
 use Rattle.model.specs.Plan.{start, Keeps, Holds, KeepsDelays, KeepsStations, Valid, stayIn, stay, finish, latency}
 use Rattle.model.specs.Padded.{Padded, inBatch}
 use Rattle.model.specs.Clash.{Clash, clashing, distances, clashesOf, clashes}
@@ -31,7 +31,7 @@ use Rattle.model.specs.Calls.{Call, call, after}
 use Rattle.model.specs.Text.{planLines, planText}
 use Rattle.model.specs.Answers.{openTold}
 use Rattle.model.specs.Judge.{jobsIn, startsIn, readClaim, as17, jobsRight, keeps, valid, planRight, judgeText, judge, judgedAs, judged}
-use Rattle.model.proofs.BoolLaws.{same-test, T-true}
+use Rattle.model.proofs.BoolLaws.{same-test, T-true, true-T}
 use Rattle.model.proofs.ListLaws.{count-some}
 use Rattle.model.proofs.SeqLaws.{listed-cong}
 use Rattle.model.proofs.BitLaws.{bit-none}
@@ -59,48 +59,34 @@ joined-cong f g (x ∷ xs) h = rw (h x (List·Memᴰ·head refl), joined-cong f 
 module _ (b b′ : Batch) (p : Padded b b′) where
   -- ---- clashes
 
-  -- a tick that holds a station is one of the shorter table
-  inside : (i a s : ℕ) → i < b .n → a < ticks b′ i → bit (mask b′ i a) s ≡ true → a < ticks b i
-  inside i a s h g t = go (decLt a (ticks b i))
+  -- a tick that is not empty is one of the shorter table
+  kept : (i a : ℕ) → i < b .n → a < ticks b′ i → (mask b′ i a ≡ 0 → ⊥) → a < ticks b i
+  kept i a h l t = go (decLt a (ticks b i))
     where
       go : Dec (a < ticks b i) → a < ticks b i
-      go (yes l) = l
-      go (no l) = absurd (bit-none (mask b′ i a) s (p .added i a h (omega arith) g) t)
+      go (yes g) = g
+      go (no g) = absurd (t (p .added i a h (omega arith) l))
 
-  shared-less : (i j : ℕ) (d : ℤ) → i < b .n → j < b .n → Shared b′ i j d → Shared b i j d
-  shared-less i j d h g s =
-      let a-in = inside i (s .a) (s .s) h (s .a-in) (s .first) in
-      let b-in = inside j (s .b) (s .s) g (s .b-in) (s .second) in
-      record {
-        a = s .a;
-        b = s .b;
-        s = s .s;
-        a-in = a-in;
-        b-in = b-in;
-        s-in = s .s-in;
-        distance = s .distance;
-        first = rw (p .same i (s .a) h a-in) at (s .first);
-        second = rw (p .same j (s .b) g b-in) at (s .second);
-      }
+  -- what a job holds in its ticks by one batch, it holds by the other
+  abbrev Moves : Batch → Batch → Type 0
+  Moves c c′ = (i a s : ℕ) → i < b .n → a < ticks c i → bit (mask c i a) s ≡ true → (a < ticks c′ i) × (bit (mask c′ i a) s ≡ true)
 
-  shared-more : (i j : ℕ) (d : ℤ) → i < b .n → j < b .n → Shared b i j d → Shared b′ i j d
-  shared-more i j d h g s =
-      record {
-        a = s .a;
-        b = s .b;
-        s = s .s;
-        a-in = omega (arith, s .a-in, p .longer i h);
-        b-in = omega (arith, s .b-in, p .longer j g);
-        s-in = s .s-in;
-        distance = s .distance;
-        first = rw (p .same i (s .a) h (s .a-in)) (s .first);
-        second = rw (p .same j (s .b) g (s .b-in)) (s .second);
-      }
+  less : Moves b′ b
+  less i a s h g t = let l = kept i a h g (λ z. bit-none (mask b′ i a) s z t) in (l, ap (λ (m : ℕ). bit m s) (sym (p .same i a h l)) ∙ t)
+
+  more : Moves b b′
+  more i a s h g t = (omega (arith, p .longer i h), ap (λ (m : ℕ). bit m s) (p .same i a h g) ∙ t)
+
+  shared-by : (c c′ : Batch) → Moves c c′ → (i j : ℕ) (d : ℤ) → i < b .n → j < b .n → Shared c i j d → Shared c′ i j d
+  shared-by c c′ m i j d h g s =
+      let x = m i (s .a) (s .s) h (s .a-in) (s .first) in
+      let y = m j (s .b) (s .s) g (s .b-in) (s .second) in
+      record { a = s .a; b = s .b; s = s .s; a-in = x .0; b-in = y .0; s-in = s .s-in; distance = s .distance; first = x .1; second = y .1 }
 
   clashing-same : (i j : ℕ) → i < b .n → j < b .n → (d : ℤ) → clashing b′ i j d ≡ clashing b i j d
   clashing-same i j h g d =
-      same-test (clashing b′ i j d) (clashing b i j d) (λ e. shared-clashing b i j d (shared-less i j d h g (clashing-shared b′ i j d e)))
-      (λ e. shared-clashing b′ i j d (shared-more i j d h g (clashing-shared b i j d e)))
+      same-test (clashing b′ i j d) (clashing b i j d) (λ e. shared-clashing b i j d (shared-by b′ b less i j d h g (clashing-shared b′ i j d e)))
+      (λ e. shared-clashing b′ i j d (shared-by b b′ more i j d h g (clashing-shared b i j d e)))
 
   clashes-of : (i j : ℕ) → i < b .n → j < b .n → clashesOf b′ i j ≡ clashesOf b i j
   unfolding clashesOf
@@ -122,17 +108,9 @@ module _ (b b′ : Batch) (p : Padded b b′) where
   stay-same : (i : ℕ) → i < b .n → stay (jobOf b′ i) ≡ stay (jobOf b i)
   unfolding stay ticks mask
   stay-same i h =
-      let less = stay-below (jobOf b′ i) (jobOf b i) (ticks b′ i) (ticks b i) (λ a l t.
-      let g = kept a l t in (g, λ z. t (p .same i a h g ∙ z))) in
-      let more = stay-below (jobOf b i) (jobOf b′ i) (ticks b i) (ticks b′ i) (λ a l t. (omega (arith, p .longer i h), λ z. t (sym (p .same i a h l) ∙ z))) in
-      omega (arith, less, more)
-    where
-      kept : (a : ℕ) → a < ticks b′ i → (mask b′ i a ≡ 0 → ⊥) → a < ticks b i
-      kept a l t = go (decLt a (ticks b i))
-        where
-          go : Dec (a < ticks b i) → a < ticks b i
-          go (yes g) = g
-          go (no g) = absurd (t (p .added i a h (omega arith) l))
+      let low = stay-below (jobOf b′ i) (jobOf b i) (ticks b′ i) (ticks b i) (λ a l t. let g = kept i a h l t in (g, λ z. t (p .same i a h g ∙ z))) in
+      let high = stay-below (jobOf b i) (jobOf b′ i) (ticks b i) (ticks b′ i) (λ a l t. (omega (arith, p .longer i h), λ z. t (sym (p .same i a h l) ∙ z))) in
+      omega (arith, low, high)
 
   pub padded-latency : (ts : List ℕ) → latency b′ ts ≡ latency b ts
   unfolding latency finish
@@ -142,34 +120,22 @@ module _ (b b′ : Batch) (p : Padded b b′) where
 
   -- ---- validity
 
-  holds-less : (ts : List ℕ) (i s x : ℕ) → i < b .n → Holds b′ ts i s x → Holds b ts i s x
+  holds-by : (c c′ : Batch) → Moves c c′ → (ts : List ℕ) (i s x : ℕ) → i < b .n → Holds c ts i s x → Holds c′ ts i s x
   unfolding Holds
-  holds-less ts i s x h t =
-      let l = inside i (t .0) s h (t .1) (T-true _ (t .3)) in
-      (t .0, l, t .2, subst (λ (m : ℕ). T (bit m s)) (p .same i (t .0) h l) (t .3))
+  holds-by c c′ m ts i s x h t = let l = m i (t .0) s h (t .1) (T-true _ (t .3)) in (t .0, l .0, t .2, true-T (l .1))
 
-  holds-more : (ts : List ℕ) (i s x : ℕ) → i < b .n → Holds b ts i s x → Holds b′ ts i s x
-  unfolding Holds
-  holds-more ts i s x h t = (t .0, omega (arith, t .1, p .longer i h), t .2, subst (λ (m : ℕ). T (bit m s)) (sym (p .same i (t .0) h (t .1))) (t .3))
+  valid-by : (c c′ : Batch) → Moves c′ c → c .n ≡ b .n → c′ .n ≡ c .n → delaysOf c ≡ delaysOf c′ → (ts : List ℕ) → Valid c ts → Valid c′ ts
+  unfolding KeepsDelays KeepsStations
+  valid-by c c′ m n n′ d ts v =
+      record {
+        starts = v .starts ∙ sym n′;
+        delays = subst (λ (qs : List Delay). (q : Delay) → List·Memᴰ q qs → Keeps ts q) d (v .delays);
+        stations = λ i j s x r l q h g.
+            v .stations i j s x r (omega arith) q (holds-by c′ c m ts i s x (omega arith) h) (holds-by c′ c m ts j s x (omega arith) g);
+      }
 
   pub padded-valid : (ts : List ℕ) → Valid b′ ts ↔ Valid b ts
-  unfolding KeepsDelays KeepsStations
-  padded-valid ts = (
-    λ v.
-        record {
-          starts = v .starts ∙ p .jobs;
-          delays = subst (λ (qs : List Delay). (q : Delay) → List·Memᴰ q qs → Keeps ts q) (p .delays) (v .delays);
-          stations = λ i j s x r l q h g. v .stations i j s x r (omega (arith, p .jobs)) q (holds-more ts i s x (omega arith) h) (holds-more ts j s x l g);
-        },
-    λ v.
-        record {
-          starts = v .starts ∙ sym (p .jobs);
-          delays = subst (λ (qs : List Delay). (q : Delay) → List·Memᴰ q qs → Keeps ts q) (sym (p .delays)) (v .delays);
-          stations = λ i j s x r l q h g.
-              let in-b : j < b .n = omega (arith, p .jobs) in
-              v .stations i j s x r in-b q (holds-less ts i s x (omega arith) h) (holds-less ts j s x in-b g);
-        },
-  )
+  padded-valid ts = (valid-by b′ b more (p .jobs) (sym (p .jobs)) (p .delays) ts, valid-by b b′ less refl (p .jobs) (sym (p .delays)) ts)
 
   -- ---- the search
 
