@@ -1,8 +1,8 @@
--- How long a job stays, and what that makes of the latency: no start passes it, it rises with the starts, and it is the tick from which on no job
--- holds a station, or the last start of a job that holds none.
+-- How long a job stays, and what that makes of the latency: no start passes it, it rises with the starts, and it is the first tick in which all is
+-- over.
 use Prim.Native.Nat.{ℕ, zero, suc, _+_, _≤_, _<_, max}
 use mathlib.Core.Path.{_≡_, refl, ap, sym, _∙_, subst}
-use mathlib.Core.Logic.{_⊎_, ⊎-elim, _↔_}
+use mathlib.Core.Logic.{⊎-elim, _↔_}
 use mathlib.Core.Bool.{Bool, true, false}
 use mathlib.Core.List.{List, [], _∷_, map, foldr, List·Memᴰ, List·Memᴰ·head, List·Memᴰ·tail, List·Memᴰ·not-nil, List·Memᴰ·cases-cons}
 use native.Mathlib.Omega.{arith}
@@ -53,7 +53,7 @@ module _ (job : Job) where
       go true t = absurd (e (eqb-true (getD (job .masks) a 0) 0 t))
       go false t = refl
 
-  -- what each tick from the last says of the stay
+  -- what the stay says of the ticks
   pub record Last (p : ℕ) : Type 0 where
     -- no more ticks than there are
     pub most : stayIn job p ≤ p

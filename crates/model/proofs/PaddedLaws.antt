@@ -1,4 +1,5 @@
--- Empty ticks at the end of a table change nothing but the table: neither clashes nor validity, least starts, latency, nor any step of the search.
+-- Empty ticks at the end of a table change nothing but the table: neither clashes nor validity, least starts, latency, any step of the search, nor
+-- what a call answers.
 use Prim.Native.Nat.{ℕ, zero, suc, _+_, _-_, _≤_, _<_, max}
 use mathlib.Core.Path.{_≡_, refl, ap, ap₂, sym, _∙_, subst}
 use mathlib.Core.Logic.{_↔_}
@@ -173,18 +174,19 @@ module _ (b b′ : Batch) (p : Padded b b′) where
       go true one rec = refl
       go false one rec = ap (nodesOn cs k) (one .0) ∙ rec (one .1)
 
-  -- after any number of nodes the padded search stands where the other does
-  pub padded-nodes : (k : ℕ) → nodes k (freshSearch b′) ≡ inBatch b′ (nodes k (freshSearch b))
-  unfolding nodes freshSearch searchOf inBatch
-  padded-nodes k = ap (λ (cs : List Clash). nodesOn cs k (freshSearch b′)) padded-clashes ∙ nodes-same (clashes b) k (freshSearch b) refl
+  -- after any number of nodes, from any record, the padded search stands where the other does
+  pub padded-nodes : (s : Search) → s .batch ≡ b → (k : ℕ) → nodes k (inBatch b′ s) ≡ inBatch b′ (nodes k s)
+  unfolding nodes inBatch
+  padded-nodes s e k = ap (λ (cs : List Clash). nodesOn cs k (inBatch b′ s)) (padded-clashes ∙ ap clashes (sym e)) ∙ nodes-same (clashes (s .batch)) k s e
 
   -- so N is the same
   pub padded-ends : (N : ℕ) → Ends b′ N ↔ Ends b N
-  unfolding inBatch
-  padded-ends N = (
-    λ e. record { ended = ap (λ (s : Search). s .ended) (sym (padded-nodes N)) ∙ e .ended; total = ap (λ (s : Search). s .total) (sym (padded-nodes N)) ∙ e .total },
-    λ e. record { ended = ap (λ (s : Search). s .ended) (padded-nodes N) ∙ e .ended; total = ap (λ (s : Search). s .total) (padded-nodes N) ∙ e .total },
-  )
+  unfolding freshSearch searchOf inBatch
+  padded-ends N =
+      let at = padded-nodes (freshSearch b) refl N in (
+        λ e. record { ended = ap (λ (s : Search). s .ended) (sym at) ∙ e .ended; total = ap (λ (s : Search). s .total) (sym at) ∙ e .total },
+        λ e. record { ended = ap (λ (s : Search). s .ended) at ∙ e .ended; total = ap (λ (s : Search). s .total) at ∙ e .total },
+      )
 
   -- ---- files that both are read
 
@@ -257,10 +259,6 @@ module _ (b b′ : Batch) (p : Padded b b′) where
     unfolding runRefusal inBatch
     padded-refusal budget len = λ z. require 11 (leb budget mostBudget) >>= λ u. require 12 (sound-same z) >>= λ v. require 13 (leb (n-same z) len) >>= λ w. require 14 (s .ended || leb (s .total + budget) mostTotal)
 
-    nodes-moved : (k : ℕ) → nodes k (inBatch b′ s) ≡ inBatch b′ (nodes k s)
-    unfolding nodes inBatch
-    nodes-moved k = ap (λ (cs : List Clash). nodesOn cs k (inBatch b′ s)) (padded-clashes ∙ ap clashes (sym e)) ∙ nodes-same (clashes (s .batch)) k s e
-
     -- a run answers the same, leaves the same list, and the record that it returns is the same but for the batch
     pub padded-call : (c : Call) → call (inBatch b′ s) c ≡ (record { answer = call s c .0 .answer; search = inBatch b′ (call s c .0 .search) }, call s c .1)
     unfolding call ran ranAs answered nodes inBatch
@@ -275,7 +273,7 @@ module _ (b b′ : Batch) (p : Padded b b′) where
             let t = nodes (c .budget) s in
             let kept : b′ .n ≡ t .batch .n = n-same ∙ ap (λ (x : Batch). x .n) (sym (nodes-batch (clashes (s .batch)) (c .budget) s)) in
             let a = answerOf (t .ended) (t .best) (t .total) in
-            ap (λ (x : Search). answered x (c .starts)) (nodes-moved (c .budget))
+            ap (λ (x : Search). answered x (c .starts)) (padded-nodes s e (c .budget))
             ∙ ap (λ (n : ℕ). (record { answer = a; search = inBatch b′ t }, startsAfter a n (t .starts) (c .starts))) kept
 
   -- and so after every list of runs

@@ -33,7 +33,7 @@ pub record FileOf (file : List ℕ) (b : Batch) : Type 0 where
 pub record PaddedFiles (file file′ : List ℕ) (b′ : Batch) (o o′ : Opened) : Type 0 where
   -- both open, or both are refused with the same number
   pub opens : openTold (o′ .answer) ≡ openTold (o .answer)
-  -- after every list of runs the two records differ in the batch alone, and so do those of one run more; its answer and the list that it leaves are the same
+  -- after every list of runs the two records differ in the batch alone, and a further run gives the same answer and leaves the same list
   pub runs :
       openTold (o .answer) ≡ accept tt → (cs : List Call) (s s′ : Search) → Called (o .search) cs s → Called (o′ .search) cs s′
       → (s′ ≡ inBatch b′ s) × ((c : Call) (r r′ : Ran) (list list′ : List ℕ) → (r, list) ≡ ran s (c .budget) (c .starts) → (r′, list′) ≡ ran s′ (c .budget) (c .starts) → (r′ .answer ≡ r .answer) × (list′ ≡ list))
