@@ -7,8 +7,8 @@
  * and its text cannot be written. A plan text, wherever it comes from, is judged beside its batch file; that needs
  * no record.
  *
- * A plan's latency is the first tick from which on no job holds a station, or the start of a job that holds none,
- * if one starts later. Empty ticks at the end of a job do not count. Where no job holds a station it may be 0.
+ * A plan's latency is the first tick from which on no job holds a station, or the latest start of a job that holds
+ * none, if that is later. Empty ticks at the end of a job do not count. Where no job holds a station it may be 0.
  *
  * For every call:
  * - No pointer may be null, also where the length that goes with it is 0. Each is aligned for its type and valid

@@ -10,10 +10,10 @@ from batches import apart, batch, clash_count, joined, lines, output, stay, word
 from plans import faults, outlasted, read_file
 
 BATCHES = 420
-IDLE = 60  # batches with jobs that hold nothing
+IDLE = 40  # batches whose jobs hold nothing, and as many in which some do
 MOST_CLASHES = 40
 # What a plan's latency can show of empty ticks, and in how many plans it must at least.
-FEWEST = {"below a start plus all ticks": 80, "a start of a job that holds nothing": 20, "0": 10}
+FEWEST = {"below a start plus all ticks": 80, "a start of a job that holds nothing, past all that others hold": 15, "0": 10}
 
 
 def made_batches(rng):
@@ -26,8 +26,12 @@ def made_batches(rng):
         yield made
     for number in range(IDLE):
         jobs, delays = batch(rng, 1 + number % 6, 4)
-        idle = rng.choice([0.5, 1])
-        yield [[0] * len(masks) if rng.random() < idle else masks for masks in jobs], delays
+        yield [[0] * len(masks) for masks in jobs], delays
+        jobs, delays = batch(rng, 2 + number % 5, 4)
+        held, idle = rng.sample(range(len(jobs)), 2)
+        jobs[held] = jobs[held] + [1]
+        jobs[idle] = [0] * len(jobs[idle])
+        yield jobs, delays + [(held, idle, rng.randint(3, 20))]
 
 
 def read_answer(text, n):
@@ -69,8 +73,9 @@ def shown(jobs, starts, latency):
     """What the latency of a plan shows of empty ticks."""
     if outlasted(jobs, starts, latency):
         yield "below a start plus all ticks"
-    if all(start + stay(masks) < latency for start, masks in zip(starts, jobs) if any(masks)):
-        yield "a start of a job that holds nothing"
+    ends = [start + stay(masks) for start, masks in zip(starts, jobs) if any(masks)]
+    if ends and max(ends) < latency:
+        yield "a start of a job that holds nothing, past all that others hold"
     if latency == 0:
         yield "0"
 

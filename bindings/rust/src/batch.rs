@@ -22,7 +22,7 @@ pub struct Job {
 }
 
 impl Job {
-    /// How many ticks the job takes, 1 to 16.
+    /// How many ticks the job's table has, 1 to 16, empty ones included.
     #[must_use]
     pub fn ticks(&self) -> usize {
         usize::from(self.ticks)

@@ -133,7 +133,7 @@ module _ (b : Batch) (w : Within b) (ts : List ℕ) where
   over-least x o = latency-most b ts x (λ i h. go i h (stay (jobOf b i)) refl)
     where
       go : (i : ℕ) → i < b .n → (k : ℕ) → stay (jobOf b i) ≡ k → start ts i + stay (jobOf b i) ≤ x
-      go i h zero z = omega (arith, o .empty i h (λ a s p q t. bit-none (mask b i a) s (last (jobOf b i) (ticks b i) .past a p (omega arith)) (T-true _ t)))
+      go i h zero z = omega (arith, o .empty i h (λ a s p q t. omega (arith, held-before i s (start ts i + a) (a, p, refl, t))))
       go i h (suc a) z =
           let l = last (jobOf b i) (ticks b i) in
           let inside : a < ticks b i = omega (arith, l .most) in

@@ -17,7 +17,7 @@ use Rattle.model.specs.declared.Best.the-variants.{Nothing, Latency}
 use Rattle.model.specs.declared.Search.{Search}
 use Rattle.model.specs.Common.{count, all, joined, isSome, Outcome, refuse, accept, _>>=_, require}
 use Rattle.model.specs.Limits.{mostLatency, mostTotal}
-use Rattle.model.specs.Batch.{ticks, delaysOf}
+use Rattle.model.specs.Batch.{delaysOf}
 use Rattle.model.specs.Plan.{start, Keeps, KeepsDelays, Valid, latency}
 use Rattle.model.specs.Clash.{Clash, clashes}
 use Rattle.model.specs.Starts.{same}

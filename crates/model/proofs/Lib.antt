@@ -31,5 +31,6 @@ pub mod OpenLaws
 pub mod ClaimLaws
 pub mod JudgeLaws
 pub mod PaddedLaws
+pub mod PaddingLaws
 pub mod PinLaws
 pub mod ProgramLaws

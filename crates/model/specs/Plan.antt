@@ -44,7 +44,7 @@ unfoldable pub stayIn : Job → ℕ → ℕ
 stayIn job zero = 0
 stayIn job (suc a) = if eqb (getD (job .masks) a 0) 0 then stayIn job a else suc a
 
--- how many ticks a job stays: until its last station lets go
+-- how many ticks a job stays: until its last station lets go (a processing time)
 unfoldable pub stay : Job → ℕ
 stay job = stayIn job (job .ticks)
 

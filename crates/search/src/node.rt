@@ -1,4 +1,4 @@
-// One node: least starts of the delays and the turns; back if there are none or they end at or above best; else the first clash that
+// One node: least starts of the delays and the turns; back if there are none or their latency is at or above best's; else the first clash that
 // they meet becomes a turn, and starts that meet none become best.
 use crate::back::go_back;
 use crate::rows::begin;

@@ -53,7 +53,7 @@ latency-at ps ss (suc k) i h = go (ℕ-discrete i k) (latency-at ps ss k i)
     go (yes e) rec = omega (arith, ap (λ (x : ℕ). getD ss x 0) e)
     go (no e) rec = omega (arith, rec (omega arith))
 
--- nor is it above what no end passes
+-- nor is it above what no finish passes
 pub latency-most : (ps ss : List ℕ) (most k : ℕ) → ((i : ℕ) → getD ss i 0 + getD ps i 0 ≤ most) → latencyOf ps ss k ≤ most
 unfolding latencyOf
 latency-most ps ss most zero h = omega arith
