@@ -41,9 +41,14 @@ module _ (b : Batch) (w : Within b) (more : ℕ → ℕ) (room : (i : ℕ) → i
   abbrev padded : Batch
   padded = batchOf (map longer (count 0 (b .n))) (delaysOf b)
 
+  -- ---- what it has at each place
+
   n-same : padded .n ≡ b .n
   unfolding batchOf
   n-same = listed-length longer (b .n)
+
+  delays-same : delaysOf padded ≡ delaysOf b
+  delays-same = delays-of (map longer (count 0 (b .n))) (delaysOf b)
 
   job-at : (i : ℕ) → i < b .n → jobOf padded i ≡ longer i
   unfolding jobOf batchOf
@@ -70,21 +75,20 @@ module _ (b : Batch) (w : Within b) (more : ℕ → ℕ) (room : (i : ℕ) → i
       go (yes g) = omega (arith, mask-in i a h g, w .masks-each i a h g)
       go (no g) = omega (arith, mask-past i a h (omega arith))
 
-  -- it is within the limits
+  -- ---- it is within the limits, and its unused places are blank
+
   within : Within padded
   unfolding batchOf
   within =
-      let same = delays-of (map longer (count 0 (b .n))) (delaysOf b) in
       record {
         jobs = subst (λ (n : ℕ). (1 ≤ n) × (n ≤ mostJobs)) (sym n-same) (w .jobs);
         delays = omega (arith, delays-length b, w .delays);
         ticks-each = λ i h. let l : i < b .n = omega (arith, n-same) in (omega (arith, ticks-at i l, w .ticks-each i l .0), omega (arith, ticks-at i l, room i l));
         masks-each = λ i a h g. mask-small i a (omega (arith, n-same));
-        ends-each = λ q k. let e = w .ends-each q (subst (List·Memᴰ q) same k) in (omega (arith, n-same, e .0), omega (arith, n-same, e .1), e .2);
-        weight-each = λ q k. w .weight-each q (subst (List·Memᴰ q) same k);
+        ends-each = λ q k. let e = w .ends-each q (subst (List·Memᴰ q) delays-same k) in (omega (arith, n-same, e .0), omega (arith, n-same, e .1), e .2);
+        weight-each = λ q k. w .weight-each q (subst (List·Memᴰ q) delays-same k);
       }
 
-  -- and its unused places are blank
   job-blank : (i : ℕ) → i < b .n → padJob (longer i) ≡ longer i
   unfolding padJob masksOf jobOf ticks mask
   job-blank i h =
@@ -94,7 +98,7 @@ module _ (b : Batch) (w : Within b) (more : ℕ → ℕ) (room : (i : ℕ) → i
   blank : blanked padded ≡ padded
   unfolding blanked
   blank =
-      ap₂ (λ (js : List Job) (qs : List Delay). batchOf (map padJob js) qs) (jobs-of (map longer (count 0 (b .n))) (delaysOf b)) (delays-of (map longer (count 0 (b .n))) (delaysOf b))
+      ap₂ (λ (js : List Job) (qs : List Delay). batchOf (map padJob js) qs) (jobs-of (map longer (count 0 (b .n))) (delaysOf b)) delays-same
       ∙ ap (λ (js : List Job). batchOf js (delaysOf b)) (map-map padJob longer (λ i. padJob (longer i)) (λ i. refl) (count 0 (b .n)) ∙ listed-cong _ longer (b .n) job-blank)
 
   -- so it is the padded batch, and what its file is read as
@@ -104,7 +108,7 @@ module _ (b : Batch) (w : Within b) (more : ℕ → ℕ) (room : (i : ℕ) → i
     file-read padded within ∙ ap accept blank,
     record {
       jobs = n-same;
-      delays = delays-of (map longer (count 0 (b .n))) (delaysOf b);
+      delays = delays-same;
       longer = λ i h. omega (arith, ticks-at i h);
       same = mask-in;
       added = λ i a h g k. mask-past i a h g;
