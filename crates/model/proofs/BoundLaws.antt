@@ -1,4 +1,4 @@
--- No least start passes 23,000, and no latency 23,016: a round raises a start by at most 1,000, and after round n − 1 nothing changes.
+-- No least start passes 43,000, and no latency 43,016: they begin at 20,000 at most, a round raises a start by at most 1,000, and after round n − 1 nothing changes.
 use Prim.Native.Nat.{ℕ, zero, suc, _+_, _*_, _≤_, _<_, pred}
 use mathlib.Core.Path.{_≡_, ap}
 use mathlib.Core.Bool.{true}
@@ -10,35 +10,36 @@ use native.Mathlib.Decide.{decLt}
 use lib.IntN.{ℤ, pos, negsuc, subℕ, _+ℤ_, _-ℤ_}
 use lib.Signed.{leZ}
 use borrow.Author.Tests.{leb-true}
-use lib.ListN.{length, getD}
+use lib.ListN.{length, getD, List·getD-eq-default}
 use Rattle.model.specs.declared.Batch.{Batch}
 use Rattle.model.specs.declared.Delay.{Delay}
 use Rattle.model.specs.declared.Turn.{Turn}
-use Rattle.model.specs.Limits.{mostStart, mostLatency}
+use Rattle.model.specs.Limits.{mostEarliest, mostStart, mostLatency}
+use Rattle.model.specs.Batch.{earliestStarts, latestStarts}
 use Rattle.model.specs.Plan.{start, latency}
 use Rattle.model.specs.Clash.{Clash, clashes}
-use Rattle.model.specs.Starts.{plus, raised, rounds, firstStarts}
+use Rattle.model.specs.Starts.{plus, raised, rounds}
 use Rattle.model.specs.Search.{sideOf, turned, inequalities, startsAt, noClash}
 use Rattle.model.proofs.FinishLaws.{stay-short, latency-most}
 use Rattle.model.proofs.ClashLaws.{Listed}
 use Rattle.model.proofs.DistanceLaws.{le-sub, sub-pos, sub-neg}
-use Rattle.model.proofs.StartsLaws.{after, after-suc, after-out, raised-why, Why, reach, first-zero, least-round}
+use Rattle.model.proofs.StartsLaws.{after, after-suc, after-out, raised-why, Why, reach, least-round, ends-length, earliest-at}
 use Rattle.model.proofs.NodeLaws.{Fits, Named, each, turn-listed}
 
 -- an inequality that raises a start by at most 1,000
 unfoldable pub Slow : Delay → Type 0
 Slow q = (t : ℕ) → plus t (q .weight) ≤ t + 1000
 
-pub after-bound : (qs : List Delay) (first : List ℕ) → ((j : ℕ) → getD first j 0 ≡ 0) → ((q : Delay) → List·Memᴰ q qs → Slow q) → (k j : ℕ) → after qs first k j ≤ k * 1000
+pub after-bound : (qs : List Delay) (first : List ℕ) (top : ℕ) → ((j : ℕ) → getD first j 0 ≤ top) → ((q : Delay) → List·Memᴰ q qs → Slow q) → (k j : ℕ) → after qs first k j ≤ top + k * 1000
 unfolding after rounds reach Slow
-after-bound qs first z slow zero j = omega (arith, z j)
-after-bound qs first z slow (suc k) j = go (decLt j (length first)) (after-bound qs first z slow k)
+after-bound qs first top z slow zero j = omega (arith, z j)
+after-bound qs first top z slow (suc k) j = go (decLt j (length first)) (after-bound qs first top z slow k)
   where
-    by : ((i : ℕ) → after qs first k i ≤ k * 1000) → (raised qs (rounds qs first k) j ≡ getD (rounds qs first k) j 0) ⊎ Why qs (rounds qs first k) j (raised qs (rounds qs first k) j) → raised qs (rounds qs first k) j ≤ suc k * 1000
+    by : ((i : ℕ) → after qs first k i ≤ top + k * 1000) → (raised qs (rounds qs first k) j ≡ getD (rounds qs first k) j 0) ⊎ Why qs (rounds qs first k) j (raised qs (rounds qs first k) j) → raised qs (rounds qs first k) j ≤ top + suc k * 1000
     by rec (inl e) = omega (arith, rec j)
     by rec (inr w) = omega (arith, w .value, slow (w .why) (w .listed) (getD (rounds qs first k) (w .why .from) 0), rec (w .why .from))
 
-    go : Dec (j < length first) → ((i : ℕ) → after qs first k i ≤ k * 1000) → after qs first (suc k) j ≤ suc k * 1000
+    go : Dec (j < length first) → ((i : ℕ) → after qs first k i ≤ top + k * 1000) → after qs first (suc k) j ≤ top + suc k * 1000
     go (yes h) rec = omega (arith, after-suc qs first k j h, by rec (raised-why qs (rounds qs first k) j))
     go (no h) rec = omega (arith, after-out qs first (suc k) j (omega arith))
 
@@ -75,13 +76,24 @@ module _ (b : Batch) (fits : Fits b) where
       each b fits Slow ts (λ q m. delay-slow (q .weight) (fits .slow q m))
       (λ t m. side-slow (getD (clashes b) (t .clash) noClash) (turn-listed b fits t (named t m)) (t .side))
 
+  -- earliest starts, past the jobs too
+  earliest-bound : (j : ℕ) → getD (earliestStarts b) j 0 ≤ mostEarliest
+  earliest-bound j = go (decLt j (b .n))
+    where
+      go : Dec (j < b .n) → getD (earliestStarts b) j 0 ≤ mostEarliest
+      go (yes h) = omega (arith, earliest-at b j h, fits .soon j h)
+      go (no h) = omega (arith, List·getD-eq-default (earliestStarts b) 0 {n = j} (omega (arith, ends-length b)))
+
   pub starts-bound : (ts : List Turn) → Named b ts → (ss : List ℕ) → startsAt (clashes b) b ts ≡ some ss → (j : ℕ) → start ss j ≤ mostStart
   unfolding startsAt after start
   starts-bound ts named ss e j =
+      let qs = inequalities (clashes b) b ts in
+      let n = length (earliestStarts b) in
       omega (
         arith,
-        after-bound (inequalities (clashes b) b ts) (firstStarts (b .n)) (first-zero (b .n)) (all-slow ts named) (pred (b .n)) j,
-        ap (λ (l : List ℕ). getD l j 0) (least-round (b .n) (inequalities (clashes b) b ts) ss e .1),
+        after-bound qs (earliestStarts b) mostEarliest earliest-bound (all-slow ts named) (pred n) j,
+        ap (λ (l : List ℕ). getD l j 0) (least-round (earliestStarts b) (latestStarts b) qs ss e .1),
+        ends-length b,
         fits .jobs,
       )
 

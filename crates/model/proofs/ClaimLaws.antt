@@ -9,8 +9,8 @@ use lib.ListN.{length}
 use lib.Dec.{eqb}
 use borrow.Author.Tests.{eqb-true, not-true}
 use Rattle.model.specs.Common.{if_then_else_, count, keep, joined, isEmpty, Outcome, refuse, accept, _>>=_, require}
-use Rattle.model.specs.Line.{digitOf, digitsOf, line, two, four}
-use Rattle.model.specs.Open.{at, wide, frameIs, readOne, readAll}
+use Rattle.model.specs.Line.{at, wide, frameIs, digitOf, digitsOf, line, two, four}
+use Rattle.model.specs.Open.{readOne, readAll}
 use Rattle.model.specs.Judge.{Claim, claimText, Claims, claimHead, claimLine, readLines, readClaim}
 use Rattle.model.proofs.BoolLaws.{both}
 use Rattle.model.proofs.ListLaws.{each-nil, each-cons, each-head, each-tail}

@@ -2,24 +2,31 @@
 -- is that one with its unused places blank.
 use Prim.Native.Nat.{ℕ, _-_, _≤_}
 use mathlib.Core.Path.{_≡_, refl, ap, ap₂, sym, _∙_, subst}
-use mathlib.Core.Logic.{_↔_}
-use mathlib.Core.Bool.{true}
+use mathlib.Core.Logic.{_⊎_, inl, inr, _↔_}
+use mathlib.Core.Bool.{Bool, true, false}
 use mathlib.Core.List.{List, [], _∷_, _++_, map-id, append-nil, List·Memᴰ}
+use native.Mathlib.Omega.{arith}
 use lib.ListN.{length, replicate, length-map}
+use lib.Dec.{eqb}
+use borrow.Author.Tests.{eqb-true}
 use Rattle.model.specs.declared.Batch.{Batch}
 use Rattle.model.specs.declared.Delay.{Delay}
 use Rattle.model.specs.declared.Job.{Job}
-use Rattle.model.specs.Common.{count, pad, joined, isEmpty, accept}
+use Rattle.model.specs.Common.{if_then_else_, count, pad, joined, isEmpty, accept, _>>=_, require, given}
 use Rattle.model.specs.Limits.{mostJobs, mostDelays}
 use Rattle.model.specs.Batch.{blankJob, blankDelay, jobOf, ticks, mask, delayOf, delaysOf}
-use Rattle.model.specs.Format.{headerLine, masksOf, jobLine, delayLine, jobsOf, batchFile, Within, batchOf, blanked}
-use Rattle.model.specs.Open.{countsOk, fewClashes, delaysMet, header, job, delay, readOne, readAll, readFile, openFile}
+use Rattle.model.specs.Line.{readLine}
+use Rattle.model.specs.Window.{WindowLine, windowText, windowLines, windowsOf, window}
+use Rattle.model.specs.Format.{headerLine, masksOf, jobLine, delayLine, jobsOf, Further, furtherOf, furtherText, batchFile, noFurther, Edition, Within, batchOf, blanked}
+use Rattle.model.specs.Open.{editionOk, countsOk, fewClashes, delaysMet, header, job, delay, readOne, readAll, readKind, nothingLeft, readFurther, readRest, readFile, openFile}
 use Rattle.model.proofs.BoolLaws.{apart}
 use Rattle.model.proofs.ListLaws.{count-length, each-item, index-in, by-index}
-use Rattle.model.proofs.OutcomeLaws.{accept-eq, bind-accepts, accepts-bind, require-accepts, accepts-require}
-use Rattle.model.proofs.LimitLaws.{LimitsOk, counts-iff, within-limits, limits-within}
+use Rattle.model.proofs.OutcomeLaws.{refused, accept-eq, bind-accepts, accepts-bind, require-accepts, accepts-require}
+use Rattle.model.proofs.LimitLaws.{LimitsOk, edition-iff, counts-iff, within-limits, limits-within}
 use Rattle.model.proofs.ReadLaws.{one-back, one-forth, all-back, all-forth}
 use Rattle.model.proofs.FrameLaws.{IsWide, HeaderOk, JobOk, DelayOk, header-framing, job-framing, delay-framing}
+use Rattle.model.proofs.KindLaws.{kind-back, kind-forth, kind-end}
+use Rattle.model.proofs.WindowLaws.{windowBody, WindowIn, window-framing, EachWindow, lines-of, lines-within, lines-each}
 
 -- ---- a batch's limits are those of its frames
 
@@ -32,43 +39,130 @@ limits-jobs b l = each-item JobOk (jobOf b) (b .n) (λ i h. (l .ticks-each i h, 
 limits-delays : (b : Batch) → LimitsOk b → (q : Delay) → List·Memᴰ q (delaysOf b) → DelayOk (b .n) q
 limits-delays b l q k = (l .jobs-each q k, l .weights-each q k)
 
--- and the other way
-frames-limits : (b : Batch) → HeaderOk (b .n, b .m) → ((j : Job) → List·Memᴰ j (jobsOf b) → JobOk j) → ((q : Delay) → List·Memᴰ q (delaysOf b) → DelayOk (b .n) q) → LimitsOk b
-unfolding jobsOf ticks mask masksOf
-frames-limits b c j d =
-    record {
-      counts = c;
-      ticks-each = λ i h. j (jobOf b i) (index-in (jobOf b) (b .n) i h) .0;
-      masks-each = λ i a h k. j (jobOf b i) (index-in (jobOf b) (b .n) i h) .1 (mask b i a) (index-in (mask b i) (ticks b i) a k);
-      jobs-each = λ q k. d q k .0;
-      weights-each = λ q k. d q k .1;
-    }
+-- ---- the further lines, kind by kind, among n jobs
 
--- ---- the batch that jobs and delays make up
+-- each kind's in limits
+pub record FurtherOk (n : ℕ) (few : n ≤ mostJobs) (f : Further) : Type 0 where
+  pub windows : EachWindow n few [] (f .windows)
 
--- it has these jobs
-pub jobs-of : (jobs : List Job) (delays : List Delay) → jobsOf (batchOf jobs delays) ≡ jobs
-unfolding jobsOf jobOf batchOf pad
-jobs-of jobs delays = by-index jobs (replicate (mostJobs - length jobs) blankJob) blankJob
+-- a batch's
+pub limits-further : (b : Batch) (few : b .n ≤ mostJobs) → LimitsOk b → FurtherOk (b .n) few (furtherOf b)
+unfolding furtherOf
+limits-further b few l = record { windows = lines-each b few (l .windows) }
 
--- it has these delays
-pub delays-of : (jobs : List Job) (delays : List Delay) → delaysOf (batchOf jobs delays) ≡ delays
-unfolding delaysOf delayOf batchOf pad
-delays-of jobs delays = by-index delays (replicate (mostDelays - length delays) blankDelay) blankDelay
+-- nothing is left
+pub no-more : (end : List ℕ) → isEmpty end ≡ true → end ≡ []
+unfolding isEmpty
+no-more [] e = refl
+no-more (c ∷ cs) e = apart e
 
--- its text is that of its frames
-batch-of : (n m : ℕ) (jobs : List Job) (delays : List Delay) → length jobs ≡ n → length delays ≡ m → batchFile (batchOf jobs delays) ≡ headerLine n m ++ (joined jobLine jobs ++ joined delayLine delays)
-unfolding batchFile batchOf
-batch-of n m jobs delays p q =
-    ap₂ (λ (x : List Job) (y : List Delay). headerLine (length jobs) (length delays) ++ (joined jobLine x ++ joined delayLine y)) (jobs-of jobs delays) (delays-of jobs delays)
-    ∙ ap₂ (λ (x y : ℕ). headerLine x y ++ (joined jobLine jobs ++ joined delayLine delays)) p q
+left-nothing : (end : List ℕ) → nothingLeft end ≡ accept tt → end ≡ []
+unfolding nothingLeft
+left-nothing [] e = refl
+left-nothing (c ∷ cs) e = refused (bind-accepts (given 1 (readLine (c ∷ cs))) _ tt e .2)
 
--- its limits are theirs
-limits-of : (n m : ℕ) (jobs : List Job) (delays : List Delay) → length jobs ≡ n → length delays ≡ m → HeaderOk (n, m) → ((j : Job) → List·Memᴰ j jobs → JobOk j) → ((q : Delay) → List·Memᴰ q delays → DelayOk n q) → LimitsOk (batchOf jobs delays)
-unfolding batchOf
-limits-of n m jobs delays p q c j d =
-    frames-limits (batchOf jobs delays) (ap₂ countsOk p q ∙ c) (λ x k. j x (subst (λ (l : List Job). List·Memᴰ x l) (jobs-of jobs delays) k))
-    (λ x k. subst (λ (n : ℕ). DelayOk n x) (sym p) (d x (subst (λ (l : List Delay). List·Memᴰ x l) (delays-of jobs delays) k)))
+module _ (n : ℕ) (few : n ≤ mostJobs) where
+  -- written, they are read
+  further-forth : (f : Further) → FurtherOk n few f → readFurther n (furtherText f) ≡ accept f
+  unfolding readFurther furtherText nothingLeft windowText _>>=_
+  further-forth f ok =
+      let file = joined windowText (f .windows) in
+      let ends = kind-end (window n) 0xA3 windowBody (WindowIn n) (window-framing n few) in
+      accepts-bind _ (ap (λ (l : List ℕ). readKind 0xA3 (window n) (length l) [] l) (sym (append-nil file))
+      ∙ kind-forth (window n) 0xA3 windowBody (WindowIn n) (window-framing n few) (length (file ++ [])) [] (f .windows) [] (omega arith) (ok .windows) ends)
+
+  -- read, they are what is written
+  further-back : (file : List ℕ) (f : Further) → readFurther n file ≡ accept f → (furtherText f ≡ file) × FurtherOk n few f
+  unfolding readFurther furtherText windowText
+  further-back file f e =
+      let r = bind-accepts (readKind 0xA3 (window n) (length file) [] file) _ f e in
+      let s = bind-accepts (nothingLeft (r .0 .1)) _ f (r .2) in
+      let k = kind-back (window n) 0xA3 windowBody (WindowIn n) (window-framing n few) (length file) [] file (r .0) (r .1) in
+      subst (λ (f : Further). (furtherText f ≡ file) × FurtherOk n few f) (accept-eq (s .2)) (
+        ap (joined windowText) (k .is) ∙ sym (append-nil (joined windowText (k .more)))
+            ∙ ap (λ (l : List ℕ). joined windowText (k .more) ++ l) (sym (left-nothing (r .0 .1) (s .1))) ∙ k .written,
+        record { windows = subst (EachWindow n few []) (sym (k .is)) (k .each) },
+      )
+
+  -- after the delays, by edition
+  rest-forth : (edition : ℕ) (f : Further) → ((edition ≡ 1) × (f ≡ noFurther)) ⊎ (edition ≡ 2) → FurtherOk n few f → readRest edition n (furtherText f) ≡ accept f
+  unfolding readRest if_then_else_ furtherText noFurther joined isEmpty require _>>=_
+  rest-forth edition f (inl (one, none)) ok = ap₂ (λ (e : ℕ) (g : Further). readRest e n (furtherText g)) one none ∙ ap accept (sym none)
+  rest-forth edition f (inr two) ok = ap (λ (e : ℕ). readRest e n (furtherText f)) two ∙ further-forth f ok
+
+  rest-back : (edition : ℕ) (file : List ℕ) (f : Further) → readRest edition n file ≡ accept f → (furtherText f ≡ file) × FurtherOk n few f × (edition ≡ 1 → f ≡ noFurther)
+  unfolding readRest if_then_else_ furtherText noFurther joined
+  rest-back edition file f e = go (eqb edition 1) refl e
+    where
+      go : (t : Bool) → eqb edition 1 ≡ t → (if t then (require 8 (isEmpty file) >>= λ u. accept noFurther) else readFurther n file) ≡ accept f → (furtherText f ≡ file) × FurtherOk n few f × (edition ≡ 1 → f ≡ noFurther)
+      go true h e =
+          let r = require-accepts 8 _ _ f e in
+          let z = accept-eq (r .1) in
+          (ap furtherText (sym z) ∙ sym (no-more file (r .0)), subst (FurtherOk n few) z (record { windows = tt }), λ one. sym z)
+      go false h e = let r = further-back file f e in (r .0, r .1, λ one. apart (sym h ∙ ap (λ (x : ℕ). eqb x 1) one))
+
+-- ---- the batch that jobs, delays and further lines make up
+
+module _ (edition : ℕ) (jobs : List Job) (delays : List Delay) (further : Further) where
+  abbrev made : Batch
+  made = batchOf edition jobs delays further
+
+  -- it has these jobs
+  pub jobs-of : jobsOf made ≡ jobs
+  unfolding jobsOf jobOf batchOf pad
+  jobs-of = by-index jobs (replicate (mostJobs - length jobs) blankJob) blankJob
+
+  -- it has these delays
+  pub delays-of : delaysOf made ≡ delays
+  unfolding delaysOf delayOf batchOf pad
+  delays-of = by-index delays (replicate (mostDelays - length delays) blankDelay) blankDelay
+
+  module _ (few : length jobs ≤ mostJobs) (ok : FurtherOk (length jobs) few further) where
+    -- it has these further lines
+    pub further-of : furtherOf made ≡ further
+    unfolding furtherOf batchOf
+    further-of = ap (λ (ws : List WindowLine). record { windows = ws }) (lines-of made few (further .windows) refl (ok .windows))
+
+    -- its text is that of its frames
+    batch-text : batchFile made ≡ headerLine edition (length jobs) (length delays) ++ (joined jobLine jobs ++ (joined delayLine delays ++ furtherText further))
+    unfolding batchFile batchOf
+    batch-text =
+        λ z. headerLine edition (length jobs) (length delays) ++ (joined jobLine (jobs-of z) ++ (joined delayLine (delays-of z) ++ furtherText (further-of z)))
+
+    -- its limits are theirs
+    limits-of : HeaderOk (edition, length jobs, length delays) → (edition ≡ 1 → further ≡ noFurther) → ((j : Job) → List·Memᴰ j jobs → JobOk j) → ((q : Delay) → List·Memᴰ q delays → DelayOk (length jobs) q) → LimitsOk made
+    unfolding jobsOf ticks mask masksOf batchOf Edition
+    limits-of h one j d =
+        let job : (x : Job) → List·Memᴰ x (jobsOf made) → JobOk x = λ x k. j x (subst (List·Memᴰ x) jobs-of k) in
+        let delay : (q : Delay) → List·Memᴰ q (delaysOf made) → DelayOk (length jobs) q = λ q k. d q (subst (List·Memᴰ q) delays-of k) in
+        record {
+          edition-known = known (edition-iff edition .0 (h .0));
+          windows = lines-within made few (further .windows) refl (ok .windows);
+          counts = h .1;
+          ticks-each = λ i g. job (jobOf made i) (index-in (jobOf made) (length jobs) i g) .0;
+          masks-each = λ i a g k. job (jobOf made i) (index-in (jobOf made) (length jobs) i g) .1 (mask made i a) (index-in (mask made i) (ticks made i) a k);
+          jobs-each = λ q k. delay q k .0;
+          weights-each = λ q k. delay q k .1;
+        }
+      where
+        known : (edition ≡ 1) ⊎ (edition ≡ 2) → Edition made
+        known (inl e) = inl (e, further-of ∙ one e)
+        known (inr e) = inr e
+
+-- both, with n and m for the numbers of jobs and delays
+by-numbers : (edition : ℕ) (jobs : List Job) (delays : List Delay) (further : Further) (n m : ℕ) → length jobs ≡ n → length delays ≡ m → (few : n ≤ mostJobs) → FurtherOk n few further → HeaderOk (edition, n, m)
+    → (edition ≡ 1 → further ≡ noFurther) → ((j : Job) → List·Memᴰ j jobs → JobOk j) → ((q : Delay) → List·Memᴰ q delays → DelayOk n q)
+    → LimitsOk (batchOf edition jobs delays further) × (batchFile (batchOf edition jobs delays further) ≡ headerLine edition n m ++ (joined jobLine jobs ++ (joined delayLine delays ++ furtherText further)))
+by-numbers edition jobs delays further n m p q few ok h one j d =
+    subst
+    (λ (n : ℕ). (few : n ≤ mostJobs) → FurtherOk n few further → HeaderOk (edition, n, m) → ((q : Delay) → List·Memᴰ q delays → DelayOk n q) → Both n m)
+    p
+    (subst (λ (m : ℕ). (few : length jobs ≤ mostJobs) → FurtherOk (length jobs) few further → HeaderOk (edition, length jobs, m) → ((q : Delay) → List·Memᴰ q delays → DelayOk (length jobs) q) → Both (length jobs) m) q
+    (λ few ok h d. (limits-of edition jobs delays further few ok h one j d, batch-text edition jobs delays further few ok)))
+    few ok h d
+  where
+    Both : ℕ → ℕ → Type 0
+    Both n m = LimitsOk (batchOf edition jobs delays further) × (batchFile (batchOf edition jobs delays further) ≡ headerLine edition n m ++ (joined jobLine jobs ++ (joined delayLine delays ++ furtherText further)))
 
 -- ---- reading what was written
 
@@ -82,49 +176,50 @@ pub delays-length : (b : Batch) → length (delaysOf b) ≡ b .m
 unfolding delaysOf
 delays-length b = length-map (count 0 (b .m)) (delayOf b) ∙ count-length 0 (b .m)
 
+-- an edition that is known passes 3
+known-edition : (b : Batch) → Edition b → editionOk (b .edition) ≡ true
+unfolding Edition
+known-edition b (inl e) = edition-iff (b .edition) .1 (inl (e .0))
+known-edition b (inr e) = edition-iff (b .edition) .1 (inr e)
+
 -- the text of a batch within the limits is read as that batch, its unused places blank
 pub file-read : (b : Batch) → Within b → readFile (batchFile b) ≡ accept (blanked b)
-unfolding readFile batchFile headerLine jobLine delayLine blanked isEmpty
+unfolding readFile batchFile headerLine jobLine delayLine blanked Edition
 file-read b w =
     let l = within-limits b w in
     let few : b .n ≤ mostJobs = w .jobs .1 in
-    let afterJobs = joined delayLine (delaysOf b) in
-    let delays = all-forth _ _ _ _ _ (delay-framing (b .n) few) (b .m) (delaysOf b) [] (delays-length b) (limits-delays b l) in
-    accepts-bind _ (one-forth _ _ _ _ _ header-framing (b .n, b .m) (joined jobLine (jobsOf b) ++ afterJobs) (l .counts))
+    let further = furtherText (furtherOf b) in
+    let afterJobs = joined delayLine (delaysOf b) ++ further in
+    accepts-bind _ (one-forth _ _ _ _ _ header-framing (b .edition, b .n, b .m) (joined jobLine (jobsOf b) ++ afterJobs) (known-edition b (w .edition-known), l .counts))
     ∙ accepts-bind _ (all-forth _ _ _ _ _ job-framing (b .n) (jobsOf b) afterJobs (jobs-length b) (limits-jobs b l))
-    ∙ accepts-bind _ (ap (readAll (delay (b .n)) (b .m)) (sym (append-nil afterJobs)) ∙ delays ∙ ap (λ (l : List Delay). accept (l, [])) (map-id (delaysOf b)))
-    ∙ accepts-require 8 _ refl
+    ∙ accepts-bind _ (all-forth _ _ _ _ _ (delay-framing (b .n) few) (b .m) (delaysOf b) further (delays-length b) (limits-delays b l) ∙ ap (λ (l : List Delay). accept (l, further)) (map-id (delaysOf b)))
+    ∙ accepts-bind _ (rest-forth (b .n) few (b .edition) (furtherOf b) (w .edition-known) (limits-further b few l))
 
 -- ---- writing what was read
-
--- nothing is left
-pub no-more : (end : List ℕ) → isEmpty end ≡ true → end ≡ []
-unfolding isEmpty
-no-more [] e = refl
-no-more (c ∷ cs) e = apart e
 
 -- a batch that was read is in limits, and its text is the file: each step's answer was a frame's
 read-both : (file : List ℕ) (b : Batch) → readFile file ≡ accept b → LimitsOk b × (batchFile b ≡ file)
 unfolding readFile headerLine jobLine delayLine
 read-both file b e =
     let r = bind-accepts (readOne header file) _ b e in
-    let n = r .0 .0 .0 in
-    let m = r .0 .0 .1 in
+    let (edition, n, m) = r .0 .0 in
     let s = bind-accepts (readAll job n (r .0 .1)) _ b (r .2) in
     let t = bind-accepts (readAll (delay n) m (s .0 .1)) _ b (s .2) in
-    let u = require-accepts 8 _ _ b (t .2) in
+    let u = bind-accepts (readRest edition n (t .0 .1)) _ b (t .2) in
     let jobs = s .0 .0 in
     let delays = t .0 .0 in
     let h = one-back _ _ _ _ _ header-framing file (r .0 .0) (r .0 .1) (r .1) in
-    let few : n ≤ mostJobs = counts-iff n m .0 (h .1) .0 .1 in
+    let few : n ≤ mostJobs = counts-iff n m .0 (h .1 .1) .0 .1 in
     let j = all-back _ _ _ _ _ job-framing n (r .0 .1) jobs (s .0 .1) (s .1) in
     let d = all-back _ _ _ _ _ (delay-framing n few) m (s .0 .1) delays (t .0 .1) (t .1) in
-    subst (λ (x : Batch). LimitsOk x × (batchFile x ≡ file)) (accept-eq (u .1)) (
-      limits-of n m jobs delays (j .0) (d .0) (h .1) (j .2) (d .2),
-      batch-of n m jobs delays (j .0) (d .0)
-          ∙ ap (λ (l : List ℕ). headerLine n m ++ (joined jobLine jobs ++ l))
-          (sym (append-nil (joined delayLine delays)) ∙ ap (λ (l : List ℕ). joined delayLine delays ++ l) (sym (no-more (t .0 .1) (u .0))) ∙ d .1)
-          ∙ ap (λ (l : List ℕ). headerLine n m ++ l) (j .1) ∙ h .0,
+    let f = rest-back n few edition (t .0 .1) (u .0) (u .1) in
+    let made : LimitsOk (batchOf edition jobs delays (u .0)) × (batchFile (batchOf edition jobs delays (u .0)) ≡ headerLine edition n m ++ (joined jobLine jobs ++ (joined delayLine delays ++ furtherText (u .0)))) =
+    by-numbers edition jobs delays (u .0) n m (j .0) (d .0) few (f .1) (h .1) (f .2) (j .2) (d .2) in
+    subst (λ (x : Batch). LimitsOk x × (batchFile x ≡ file)) (accept-eq (u .2)) (
+      made .0,
+      made .1
+          ∙ ap (λ (l : List ℕ). headerLine edition n m ++ (joined jobLine jobs ++ (joined delayLine delays ++ l))) (f .0)
+          ∙ ap (λ (l : List ℕ). headerLine edition n m ++ (joined jobLine jobs ++ l)) (d .1) ∙ ap (λ (l : List ℕ). headerLine edition n m ++ l) (j .1) ∙ h .0,
     )
 
 -- a batch that was read passes its limits

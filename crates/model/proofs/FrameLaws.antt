@@ -15,14 +15,14 @@ use Rattle.model.specs.declared.Delay.{Delay}
 use Rattle.model.specs.declared.Job.{Job}
 use Rattle.model.specs.Common.{if_then_else_, count, pad, joined, accept, _>>=_, require}
 use Rattle.model.specs.Limits.{mostJobs, mostTicks, mostWeight}
-use Rattle.model.specs.Line.{two}
+use Rattle.model.specs.Line.{at, wide, frameIs, two}
 use Rattle.model.specs.Format.{unsigned, masksOf, padJob}
-use Rattle.model.specs.Open.{countsOk, ticksOk, jobsOk, weightOk, at, wide, signed, frameIs, header, wides, jobIn, job, delayIn, delay}
+use Rattle.model.specs.Open.{editionOk, countsOk, ticksOk, jobsOk, weightOk, signed, header, wides, jobIn, job, delayIn, delay}
 use Rattle.model.proofs.BoolLaws.{both, and}
 use Rattle.model.proofs.ListLaws.{each-nil, each-cons, each-head, each-tail, count-length, by-index}
 use Rattle.model.proofs.OutcomeLaws.{accept-eq, require-accepts, accepts-require}
 use Rattle.model.proofs.LineLaws.{IsByte, Bytes}
-use Rattle.model.proofs.LimitLaws.{counts-iff, ticks-iff, jobs-iff, weight-iff}
+use Rattle.model.proofs.LimitLaws.{edition-small, counts-iff, ticks-iff, jobs-iff, weight-iff}
 use Rattle.model.proofs.ReadLaws.{Framing}
 
 -- ---- weights: two's complement both ways
@@ -109,37 +109,38 @@ at-byte [] k h = omega arith
 at-byte (x ∷ f) zero h = each-head IsByte h
 at-byte (x ∷ f) (suc k) h = at-byte f k (each-tail IsByte h)
 
--- ---- the header: n and m
+-- ---- the header: edition, n and m
 
--- counts in limits (4)
-abbrev pub HeaderOk : ℕ × ℕ → Type 0
-HeaderOk c = countsOk (c .0) (c .1) ≡ true
+-- edition (3) and counts (4) in limits
+abbrev pub HeaderOk : ℕ × ℕ × ℕ → Type 0
+HeaderOk c = (editionOk (c .0) ≡ true) × (countsOk (c .1) (c .2) ≡ true)
 
 -- what follows A0
-abbrev pub headerBody : ℕ × ℕ → List ℕ
-headerBody c = 0x01 ∷ c .0 ∷ c .1 ∷ []
+abbrev pub headerBody : ℕ × ℕ × ℕ → List ℕ
+headerBody c = c .0 ∷ c .1 ∷ c .2 ∷ []
 
 -- the header both ways
 pub header-framing : Framing header 0xA0 headerBody (λ c. c) HeaderOk
 unfolding header frameIs at require _>>=_ count
 header-framing = record { back = back; forth = forth }
   where
-    back : (f : List ℕ) (c : ℕ × ℕ) → Bytes f → header f ≡ accept c → (0xA0 ∷ headerBody c ≡ f) × HeaderOk c
+    back : (f : List ℕ) (c : ℕ × ℕ × ℕ) → Bytes f → header f ≡ accept c → (0xA0 ∷ headerBody c ≡ f) × HeaderOk c
     back f c small e =
         let s = require-accepts 2 _ _ c e in
         let t = require-accepts 3 _ _ c (s .1) in
         let u = require-accepts 4 _ _ c (t .1) in
         let k = frame-iff 0xA0 4 f .0 (s .0) in
-        subst (λ (p : ℕ × ℕ). (0xA0 ∷ headerBody p ≡ f) × HeaderOk p) (accept-eq (u .1)) (
-          ap₂ (λ (x y : ℕ). x ∷ y ∷ at f 2 ∷ at f 3 ∷ []) (sym (k .0)) (sym (eqb-true (at f 1) 1 (t .0))) ∙ at-each f 4 (k .1),
-          u .0,
+        subst (λ (p : ℕ × ℕ × ℕ). (0xA0 ∷ headerBody p ≡ f) × HeaderOk p) (accept-eq (u .1)) (
+          ap (λ (x : ℕ). x ∷ at f 1 ∷ at f 2 ∷ at f 3 ∷ []) (sym (k .0)) ∙ at-each f 4 (k .1),
+          (t .0, u .0),
         )
 
-    forth : (c : ℕ × ℕ) → HeaderOk c → Bytes (0xA0 ∷ headerBody c) × (header (0xA0 ∷ headerBody c) ≡ accept c)
+    forth : (c : ℕ × ℕ × ℕ) → HeaderOk c → Bytes (0xA0 ∷ headerBody c) × (header (0xA0 ∷ headerBody c) ≡ accept c)
     forth c h =
-        let k = counts-iff (c .0) (c .1) .0 h in (
-          each-cons IsByte (omega arith) (each-cons IsByte (omega arith) (each-cons IsByte (omega arith) (each-cons IsByte (omega arith) (each-nil IsByte)))),
-          accepts-require 4 _ h,
+        let k = counts-iff (c .1) (c .2) .0 (h .1) in
+        let small : c .0 < 256 = edition-small (c .0) (h .0) in (
+          each-cons IsByte (omega arith) (each-cons IsByte small (each-cons IsByte (omega arith) (each-cons IsByte (omega arith) (each-nil IsByte)))),
+          accepts-require 3 _ (h .0) ∙ accepts-require 4 _ (h .1),
         )
 
 -- ---- a job

@@ -15,10 +15,10 @@ use Rattle.model.specs.declared.Batch.{Batch}
 use Rattle.model.specs.declared.Best.{Best}
 use Rattle.model.specs.declared.Best.the-variants.{Nothing, Latency}
 use Rattle.model.specs.declared.Search.{Search}
-use Rattle.model.specs.Common.{count, all, joined, isSome, Outcome, refuse, accept, _>>=_, require}
+use Rattle.model.specs.Common.{between, count, all, joined, isSome, Outcome, refuse, accept, _>>=_, require}
 use Rattle.model.specs.Limits.{mostLatency, mostTotal}
-use Rattle.model.specs.Batch.{delaysOf}
-use Rattle.model.specs.Plan.{start, Keeps, KeepsDelays, Valid, latency}
+use Rattle.model.specs.Batch.{delaysOf, earliest, latest}
+use Rattle.model.specs.Plan.{start, Keeps, KeepsDelays, KeepsEnds, Valid, latency}
 use Rattle.model.specs.Clash.{Clash, clashes}
 use Rattle.model.specs.Starts.{same}
 use Rattle.model.specs.Search.{noClash, met, firstMet, freshSearch}
@@ -30,16 +30,16 @@ use Rattle.model.specs.Text.{planLines, planText}
 use Rattle.model.specs.Answers.{bestTold}
 use Rattle.model.specs.Calls.{Call, after}
 use Rattle.model.specs.Demands.{PlanWith}
-use Rattle.model.specs.Judge.{RightText, Claim, jobsIn, startsIn, claimText, Claims, RightJobs, RightPlan, readClaim, as17, jobsRight, keeps, valid, planRight, judgeText, judge}
+use Rattle.model.specs.Judge.{RightText, Claim, jobsIn, startsIn, claimText, Claims, RightJobs, RightPlan, readClaim, as17, jobsRight, keeps, keepsEnds, valid, planRight, judgeText, judge}
 use Rattle.model.proofs.BoolLaws.{apart, both, and, decide}
-use Rattle.model.proofs.ListLaws.{all-each, each-all, count-length, each-item, by-index}
+use Rattle.model.proofs.ListLaws.{all-each, each-all, count-some, some-count, count-length, each-item, by-index}
 use Rattle.model.proofs.SeqLaws.{getD-in, map-map, listed-at, listed-length, listed-cong}
 use Rattle.model.proofs.OutcomeLaws.{refused, accept-eq, bind-accepts, accepts-bind, require-accepts}
 use Rattle.model.proofs.StartsLaws.{same-eq, same-refl}
 use Rattle.model.proofs.FinishLaws.{finish-latency}
 use Rattle.model.proofs.ClashLaws.{Unmet, apart-unmet, unmet-apart}
 use Rattle.model.proofs.NodeLaws.{unmet-all, met-first}
-use Rattle.model.proofs.LimitLaws.{leZ-iff}
+use Rattle.model.proofs.LimitLaws.{between-iff, leZ-iff}
 use Rattle.model.proofs.OpenLaws.{open-format, text-plans, best-plans}
 use Rattle.model.proofs.ClaimLaws.{claim-iff}
 
@@ -77,9 +77,9 @@ met-none cs ts h = go (firstMet cs ts 0) refl h
     go (some k) e h = apart h
 
 module _ (file : List ℕ) (b : Batch) (f : BatchFile file b) (c : Claim) (jobs : RightJobs b c) where
-  -- the tests of delays, clashes and latency are those of ticks and stations
+  -- the tests of delays, ends, clashes and latency are those of ticks and stations
   pub plan-iff : (planRight b c ≡ true) ↔ RightPlan b c
-  unfolding planRight valid RightPlan KeepsDelays Keeps keeps Unmet
+  unfolding planRight valid RightPlan KeepsDelays Keeps keeps KeepsEnds keepsEnds Unmet
   plan-iff = (there, back)
     where
       ts : List ℕ
@@ -87,11 +87,13 @@ module _ (file : List ℕ) (b : Batch) (f : BatchFile file b) (c : Claim) (jobs 
 
       there : planRight b c ≡ true → RightPlan b c
       there e =
-          let r = both (all (keeps ts) (delaysOf b) && not (isSome (firstMet (clashes b) ts 0))) (eqb (latency b ts) (c .latency)) e in
-          let s = both (all (keeps ts) (delaysOf b)) (not (isSome (firstMet (clashes b) ts 0))) (r .0) in (
+          let r = both (all (keeps ts) (delaysOf b) && keepsEnds b ts && not (isSome (firstMet (clashes b) ts 0))) (eqb (latency b ts) (c .latency)) e in
+          let s = both (all (keeps ts) (delaysOf b) && keepsEnds b ts) (not (isSome (firstMet (clashes b) ts 0))) (r .0) in
+          let t = both (all (keeps ts) (delaysOf b)) (keepsEnds b ts) (s .0) in (
             record {
               starts = starts-length b c jobs;
-              delays = λ q m. leZ-iff _ _ .0 (all-each (keeps ts) (delaysOf b) (s .0) m);
+              delays = λ q m. leZ-iff _ _ .0 (all-each (keeps ts) (delaysOf b) (t .0) m);
+              ends = λ i h. between-iff _ _ _ .0 (all-each (λ i. between (earliest b i) (start ts i) (latest b i)) (count 0 (b .n)) (t .1) (some-count 0 (b .n) i (omega arith) (omega arith)));
               stations = unmet-apart b ts (λ i h. f .within .ticks-each i h .1) (met-none (clashes b) ts (s .1));
             },
             eqb-true _ _ (r .1),
@@ -99,7 +101,9 @@ module _ (file : List ℕ) (b : Batch) (f : BatchFile file b) (c : Claim) (jobs 
 
       back : RightPlan b c → planRight b c ≡ true
       back h =
-          and (and (each-all (keeps ts) (delaysOf b) (λ q m. leZ-iff _ _ .1 (h .0 .delays q m))) (none-met (clashes b) ts (apart-unmet b ts (h .0 .stations))))
+          and (and (and (each-all (keeps ts) (delaysOf b) (λ q m. leZ-iff _ _ .1 (h .0 .delays q m)))
+          (each-all (λ i. between (earliest b i) (start ts i) (latest b i)) (count 0 (b .n)) (λ i m. between-iff _ _ _ .1 (h .0 .ends i (omega (arith, count-some 0 (b .n) i m .1))))))
+          (none-met (clashes b) ts (apart-unmet b ts (h .0 .stations))))
           (eq-eqb _ _ (h .1))
 
 -- ---- each answer, and when it is given

@@ -5,6 +5,12 @@ pub mod SeqLaws
 pub mod AllLaws
 pub mod OutcomeLaws
 pub mod RefusalLaws
+pub mod LineLaws
+pub mod LimitLaws
+pub mod ReadLaws
+pub mod FrameLaws
+pub mod KindLaws
+pub mod WindowLaws
 pub mod PlusLaws
 pub mod DistanceLaws
 pub mod BitLaws
@@ -22,10 +28,6 @@ pub mod EndLaws
 pub mod SoundLaws
 pub mod LeaveLaws
 pub mod CallLaws
-pub mod LineLaws
-pub mod LimitLaws
-pub mod ReadLaws
-pub mod FrameLaws
 pub mod FileLaws
 pub mod OpenLaws
 pub mod ClaimLaws

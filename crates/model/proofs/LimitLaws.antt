@@ -1,20 +1,22 @@
 -- 01's limits as tests and as facts: a batch is within them exactly when it passes the tests of opening and each mask is two bytes.
 use Prim.Native.Nat.{ℕ, _-_, _≤_, _<_}
-use mathlib.Core.Path.{_≡_, ap}
-use mathlib.Core.Logic.{_↔_, _≢_}
-use mathlib.Core.Bool.{true, not, _&&_}
+use mathlib.Core.Path.{_≡_, refl, ap}
+use mathlib.Core.Logic.{_⊎_, inl, inr, _↔_, _≢_}
+use mathlib.Core.Bool.{Bool, true, false, not, _&&_, _||_}
 use mathlib.Core.List.{List·Memᴰ}
 use lib.IntN.{ℤ, pos, negsuc}
 use lib.Signed.{_≤ℤ_, leZ}
 use lib.Dec.{leb, ltb, eqb}
-use borrow.Author.Tests.{leb-true, le-leb, ltb-true, lt-ltb, eqb-false, ne-eqb, not-true}
+use native.Mathlib.Omega.{arith}
+use borrow.Author.Tests.{leb-true, le-leb, ltb-true, lt-ltb, eqb-true, eq-eqb, eqb-false, ne-eqb, not-true}
 use Rattle.model.specs.declared.Batch.{Batch}
 use Rattle.model.specs.declared.Delay.{Delay}
 use Rattle.model.specs.Common.{between}
 use Rattle.model.specs.Limits.{mostJobs, mostDelays, mostTicks, mostWeight}
 use Rattle.model.specs.Batch.{ticks, mask, delaysOf}
-use Rattle.model.specs.Format.{Within}
-use Rattle.model.specs.Open.{countsOk, ticksOk, jobsOk, weightOk}
+use Rattle.model.specs.Window.{WithinWindows}
+use Rattle.model.specs.Format.{Edition, Within}
+use Rattle.model.specs.Open.{editionOk, countsOk, ticksOk, jobsOk, weightOk}
 use Rattle.model.proofs.BoolLaws.{both, and, T-true, true-T}
 
 -- ---- each test is its limit
@@ -24,6 +26,26 @@ pub between-iff : (lo x hi : ℕ) → between lo x hi ≡ true ↔ ((lo ≤ x) �
 unfolding between
 between-iff lo x hi =
     (λ e. let r = both (leb lo x) (leb x hi) e in (leb-true lo x (r .0), leb-true x hi (r .1)), λ h. and (le-leb lo x (h .0)) (le-leb x hi (h .1)))
+
+-- the edition (3)
+pub edition-iff : (e : ℕ) → editionOk e ≡ true ↔ ((e ≡ 1) ⊎ (e ≡ 2))
+unfolding editionOk
+edition-iff e = (there (eqb e 1) refl, back)
+  where
+    there : (t : Bool) → eqb e 1 ≡ t → (t || eqb e 2) ≡ true → (e ≡ 1) ⊎ (e ≡ 2)
+    there true h g = inl (eqb-true e 1 h)
+    there false h g = inr (eqb-true e 2 g)
+
+    back : (e ≡ 1) ⊎ (e ≡ 2) → (eqb e 1 || eqb e 2) ≡ true
+    back (inl h) = rw (eq-eqb e 1 h)
+    back (inr h) = ap (λ (x : ℕ). eqb x 1 || eqb x 2) h
+
+pub edition-small : (e : ℕ) → editionOk e ≡ true → e < 256
+edition-small e h = go (edition-iff e .0 h)
+  where
+    go : (e ≡ 1) ⊎ (e ≡ 2) → e < 256
+    go (inl z) = omega arith
+    go (inr z) = omega arith
 
 -- p (4)
 pub ticks-iff : (p : ℕ) → ticksOk p ≡ true ↔ ((1 ≤ p) × (p ≤ mostTicks))
@@ -64,8 +86,10 @@ weight-iff q =
 
 -- ---- a whole batch
 
--- it passes 4, 5 and 6, and a mask is two bytes
+-- it passes 3 to 6 and what is asked of its further lines, and a mask is two bytes
 pub record LimitsOk (b : Batch) : Type 0 where
+  pub edition-known : Edition b
+  pub windows : WithinWindows b
   pub counts : countsOk (b .n) (b .m) ≡ true
   pub ticks-each : (i : ℕ) → i < b .n → ticksOk (ticks b i) ≡ true
   pub masks-each : (i a : ℕ) → i < b .n → a < ticks b i → mask b i a < 65536
@@ -76,6 +100,8 @@ pub record LimitsOk (b : Batch) : Type 0 where
 pub within-limits : (b : Batch) → Within b → LimitsOk b
 within-limits b w =
     record {
+      edition-known = w .edition-known;
+      windows = w .windows;
       counts = counts-iff (b .n) (b .m) .1 (w .jobs, w .delays);
       ticks-each = λ i h. ticks-iff (ticks b i) .1 (w .ticks-each i h);
       masks-each = w .masks-each;
@@ -88,6 +114,8 @@ pub limits-within : (b : Batch) → LimitsOk b → Within b
 limits-within b l =
     let c = counts-iff (b .n) (b .m) .0 (l .counts) in
     record {
+      edition-known = l .edition-known;
+      windows = l .windows;
       jobs = c .0;
       delays = c .1;
       ticks-each = λ i h. ticks-iff (ticks b i) .0 (l .ticks-each i h);

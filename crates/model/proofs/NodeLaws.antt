@@ -17,8 +17,8 @@ use Rattle.model.specs.declared.Turn.{Turn}
 use Rattle.model.specs.declared.Best.{Best}
 use Rattle.model.specs.declared.Best.the-variants.{Nothing, Latency}
 use Rattle.model.specs.Common.{if_then_else_, eqZ}
-use Rattle.model.specs.Limits.{mostJobs, mostTicks, mostClashes, mostWeight}
-use Rattle.model.specs.Batch.{ticks, delaysOf}
+use Rattle.model.specs.Limits.{mostJobs, mostTicks, mostClashes, mostWeight, mostEarliest}
+use Rattle.model.specs.Batch.{ticks, delaysOf, earliest, earliestStarts, latestStarts}
 use Rattle.model.specs.Plan.{start, Keeps, KeepsDelays, Valid, latency}
 use Rattle.model.specs.Clash.{Clash, clashes}
 use Rattle.model.specs.Search.{Incumbent, Place, noClash, sideOf, turned, inequalities, startsAt, met, firstMet, turnedBack, backTo, back, prunes, becomeBest, branch, visit, next}
@@ -30,7 +30,7 @@ use Rattle.model.proofs.FinishLaws.{latency-mono}
 use Rattle.model.proofs.SideLaws.{side0-apart, side1-apart, sides}
 use Rattle.model.proofs.ClashLaws.{Unmet, apart-unmet, unmet-apart, Listed, clash-listed}
 use Rattle.model.proofs.DistanceLaws.{eqZ-eq, eqZ-refl}
-use Rattle.model.proofs.StartsLaws.{Inside, least-length, least-keeps, least-below, least-found}
+use Rattle.model.proofs.StartsLaws.{Inside, least-length, least-solution, least-below, least-found, ends-length, Solved, solved, solved-ends, inside-ends}
 use Rattle.model.proofs.BackLaws.{BackTo, back-is, numbers, Present, Pending, Open, pending-done, pending-open, open-append, present-all}
 
 -- what the limits say of a batch
@@ -39,6 +39,7 @@ pub record Fits (b : Batch) : Type 0 where
   pub short : (i : ℕ) → i < b .n → ticks b i ≤ mostTicks
   pub inside : (q : Delay) → List·Memᴰ q (delaysOf b) → (q .from < b .n) × (q .to < b .n)
   pub slow : (q : Delay) → List·Memᴰ q (delaysOf b) → leZ (q .weight) (pos mostWeight) ≡ true
+  pub soon : (i : ℕ) → i < b .n → earliest b i ≤ mostEarliest
   pub few : length (clashes b) ≤ mostClashes
 
 -- the turns are on listed clashes
@@ -117,11 +118,13 @@ module _ (b : Batch) (fits : Fits b) where
 
   pub at-length : (ts : List Turn) (ss : List ℕ) → startsAt (clashes b) b ts ≡ some ss → length ss ≡ b .n
   unfolding startsAt
-  at-length ts ss e = least-length (b .n) (inequalities (clashes b) b ts) ss e
+  at-length ts ss e = least-length (earliestStarts b) (latestStarts b) (inequalities (clashes b) b ts) ss e ∙ ends-length b
 
-  at-keeps : (ts : List Turn) → Named b ts → (ss : List ℕ) → startsAt (clashes b) b ts ≡ some ss → (q : Delay) → List·Memᴰ q (inequalities (clashes b) b ts) → Keeps ss q
+  pub at-solved : (ts : List Turn) → Named b ts → (ss : List ℕ) → startsAt (clashes b) b ts ≡ some ss → Solved b (inequalities (clashes b) b ts) ss
   unfolding startsAt
-  at-keeps ts names ss e q m = least-keeps (b .n) (inequalities (clashes b) b ts) (all-inside ts names) ss e q m
+  at-solved ts names ss e =
+      let qs = inequalities (clashes b) b ts in
+      least-solution (earliestStarts b) (latestStarts b) qs (inside-ends b qs (all-inside ts names)) ss e
 
   -- a clash that is met is not on the path
   pub met-new : (ts : List Turn) → Named b ts → (ss : List ℕ) → startsAt (clashes b) b ts ≡ some ss → (k : ℕ) → firstMet (clashes b) ss 0 ≡ some k → ¬ List·Memᴰ k (numbers ts)
@@ -130,7 +133,7 @@ module _ (b : Batch) (fits : Fits b) where
       let r = map-some (λ (t : Turn). t .clash) ts m in
       let z : k - 0 ≡ r .0 .clash = omega (arith, r .2) in
       side-unmet ss (getD (clashes b) (r .0 .clash) noClash) (r .0 .side)
-      (at-keeps ts names ss e (turned (clashes b) (r .0)) (Memᴰ·append-right (delaysOf b) (some-map (turned (clashes b)) ts (r .1))))
+      (at-solved ts names ss e .keeps (turned (clashes b) (r .0)) (Memᴰ·append-right (delaysOf b) (some-map (turned (clashes b)) ts (r .1))))
       (ap (λ (i : ℕ). met ss (getD (clashes b) i noClash)) (sym z) ∙ met-first (clashes b) ss 0 k f .2)
 
   -- least starts that meet no clash are a valid plan
@@ -139,25 +142,27 @@ module _ (b : Batch) (fits : Fits b) where
   valid-found ts names ss e f =
       record {
         starts = at-length ts ss e;
-        delays = λ q m. at-keeps ts names ss e q (Memᴰ·append-left (map (turned (clashes b)) ts) m);
+        delays = λ q m. at-solved ts names ss e .keeps q (Memᴰ·append-left (map (turned (clashes b)) ts) m);
+        ends = solved-ends b (inequalities (clashes b) b ts) ss (at-solved ts names ss e);
         stations = unmet-apart b ss (fits .short) (unmet-all (clashes b) ss 0 f);
       }
 
-  -- a valid plan that keeps the turns keeps the node's inequalities, so that there are least starts, no later than the plan
-  plan-keeps : (us : List ℕ) → Valid b us → (ts : List Turn) → Present (KT us) ts → (q : Delay) → List·Memᴰ q (inequalities (clashes b) b ts) → Keeps us q
+  -- a valid plan that keeps the turns keeps the node's inequalities and the ends, so that there are least starts, no later than the plan
+  plan-solved : (us : List ℕ) → Valid b us → (ts : List Turn) → Present (KT us) ts → Solved b (inequalities (clashes b) b ts) us
   unfolding KeepsDelays
-  plan-keeps us v ts h = each (Keeps us) ts (v .delays) (present-all (KT us) ts h)
+  plan-solved us v ts h = solved b (inequalities (clashes b) b ts) us (each (Keeps us) ts (v .delays) (present-all (KT us) ts h)) (v .ends)
 
   pub found : (us : List ℕ) → Valid b us → (ts : List Turn) → Named b ts → Present (KT us) ts → startsAt (clashes b) b ts ≡ none → ⊥
   unfolding startsAt
   found us v ts names h e =
-      let f = least-found (b .n) (inequalities (clashes b) b ts) (all-inside ts names) us (plan-keeps us v ts h) in
+      let qs = inequalities (clashes b) b ts in
+      let f = least-found (earliestStarts b) (latestStarts b) qs (inside-ends b qs (all-inside ts names)) us (plan-solved us v ts h) in
       let z : _≡_ {A = ℕ} 0 1 = cc in
       omega arith
 
   pub least : (us : List ℕ) → Valid b us → (ts : List Turn) → Present (KT us) ts → (ss : List ℕ) → startsAt (clashes b) b ts ≡ some ss → latency b ss ≤ latency b us
   unfolding startsAt
-  least us v ts h ss e = latency-mono b ss us (least-below (b .n) (inequalities (clashes b) b ts) ss e us (plan-keeps us v ts h))
+  least us v ts h ss e = latency-mono b ss us (least-below (earliestStarts b) (latestStarts b) (inequalities (clashes b) b ts) ss e us (plan-solved us v ts h))
 
   -- ---- a valid plan is at or above best, or still open
 

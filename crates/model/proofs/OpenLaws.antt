@@ -1,4 +1,4 @@
--- Opening accepts exactly the files of document 01's format whose delays can be met, and yields a sound fresh search, which ends. Its batch text is the file,
+-- Opening accepts exactly the files of the format of 01 and 02 whose delays and ends can be met together, and yields a sound fresh search, which ends. Its batch text is the file,
 -- and its plans are valid, after every list of calls.
 use Prim.Native.Nat.{ℕ, _≤_, min}
 use mathlib.Core.Path.{_≡_, refl, ap, sym, _∙_, subst}
@@ -16,14 +16,15 @@ use Rattle.model.specs.declared.Best.the-variants.{Nothing, Latency}
 use Rattle.model.specs.declared.Search.{Search}
 use Rattle.model.specs.Common.{all, count, isSome, Outcome, refuse, accept, _>>=_, require}
 use Rattle.model.specs.Limits.{mostClashes}
-use Rattle.model.specs.Batch.{ticks, delaysOf}
-use Rattle.model.specs.Plan.{KeepsDelays, Valid, latency}
+use Rattle.model.specs.Batch.{ticks, delaysOf, earliestStarts, latestStarts}
+use Rattle.model.specs.Plan.{KeepsDelays, KeepsEnds, Valid, latency}
 use Rattle.model.specs.Clash.{clashes}
 use Rattle.model.specs.Starts.{leastStarts}
 use Rattle.model.specs.Search.{placeOf, freshPlace, freshSearch, nodes, Ends, nodeLimit}
 use Rattle.model.specs.Format.{Within, batchFile, BatchFile}
 use Rattle.model.specs.Open.{countsOk, ticksOk, jobsOk, weightOk, fewClashes, delaysMet, openFile, openedAs, opened}
-use Rattle.model.specs.Sound.{soundBatch, soundBest, sound}
+use Rattle.model.specs.Window.{windowOk}
+use Rattle.model.specs.Sound.{soundEdition, soundFurther, soundBatch, soundBest, sound}
 use Rattle.model.specs.Run.{runRefusal, ran}
 use Rattle.model.specs.Text.{planLines, planText, batchText}
 use Rattle.model.specs.Answers.{plan, runTold, verdictOf, openTold, bestTold}
@@ -32,43 +33,57 @@ use Rattle.model.specs.Demands.{RunLeaves, PlanWith, Reached, AnswerFor}
 use Rattle.model.proofs.BoolLaws.{apart}
 use Rattle.model.proofs.ListLaws.{all-each, each-all, count-some}
 use Rattle.model.proofs.OutcomeLaws.{refused, accept-eq}
-use Rattle.model.proofs.StartsLaws.{Inside, least-length, least-keeps, least-found}
+use Rattle.model.proofs.StartsLaws.{Inside, least-length, least-solution, least-found, ends-length, solved, solved-ends, inside-ends}
 use Rattle.model.proofs.GoodLaws.{good-none, ValidBest}
 use Rattle.model.proofs.EndLaws.{End, search-ends, best-valid, nodes-fresh}
-use Rattle.model.proofs.SoundLaws.{Passes, sound-passes, passes-sound, fits, place-sound}
+use Rattle.model.proofs.SoundLaws.{Passes, sound-passes, passes-sound, edition-sound, fits, place-sound}
 use Rattle.model.proofs.CallLaws.{at-batch, after-fresh, list-reached, list-refused, list-answered}
 use Rattle.model.proofs.LimitLaws.{jobs-iff, within-limits}
+use Rattle.model.proofs.WindowLaws.{window-ok}
 use Rattle.model.proofs.FileLaws.{read-format, open-read}
 use Rattle.model.proofs.LeaveLaws.{running-leaves}
 
--- ---- refusal 10: delays of jobs below n can be met exactly when some starts keep them
+-- ---- refusal 10: delays of jobs below n and the ends can be met together exactly when some starts keep them
 
-pub met-starts : (b : Batch) → Inside (b .n) (delaysOf b) → (delaysMet b ≡ true) ↔ ((ts : List ℕ) × (length ts ≡ b .n) × KeepsDelays b ts)
+-- starts that do
+abbrev pub Meets : Batch → Type 0
+Meets b = (ts : List ℕ) × (length ts ≡ b .n) × (KeepsDelays b ts × KeepsEnds b ts)
+
+pub met-starts : (b : Batch) → Inside (b .n) (delaysOf b) → (delaysMet b ≡ true) ↔ Meets b
 unfolding delaysMet KeepsDelays isSome
-met-starts b in-b = (there (leastStarts (b .n) (delaysOf b)) refl, back)
+met-starts b in-b = (there (leastStarts first last (delaysOf b)) refl, back)
   where
-    there : (o : Option (List ℕ)) → leastStarts (b .n) (delaysOf b) ≡ o → isSome o ≡ true → (ts : List ℕ) × (length ts ≡ b .n) × KeepsDelays b ts
-    there none e h = apart h
-    there (some ts) e h = (ts, least-length (b .n) (delaysOf b) ts e, least-keeps (b .n) (delaysOf b) in-b ts e)
+    first : List ℕ
+    first = earliestStarts b
 
-    back : (ts : List ℕ) × (length ts ≡ b .n) × KeepsDelays b ts → isSome (leastStarts (b .n) (delaysOf b)) ≡ true
-    back (ts, n, k) = ap isSome (least-found (b .n) (delaysOf b) in-b ts k)
+    last : List ℕ
+    last = latestStarts b
+
+    there : (o : Option (List ℕ)) → leastStarts first last (delaysOf b) ≡ o → isSome o ≡ true → Meets b
+    there none e h = apart h
+    there (some ts) e h =
+        let s = least-solution first last (delaysOf b) (inside-ends b (delaysOf b) in-b) ts e in
+        (ts, least-length first last (delaysOf b) ts e ∙ ends-length b, (s .keeps, solved-ends b (delaysOf b) ts s))
+
+    back : Meets b → isSome (leastStarts first last (delaysOf b)) ≡ true
+    back (ts, n, k) = ap isSome (least-found first last (delaysOf b) (inside-ends b (delaysOf b) in-b) ts (solved b (delaysOf b) ts (k .0) (k .1)))
 
 within-inside : (b : Batch) → Within b → Inside (b .n) (delaysOf b)
 unfolding Inside
 within-inside b w q m = let e = w .ends-each q m in (e .0, e .1)
 
--- so it is in every record: a batch that passes 4, 5, 6 and 9 is sound exactly when some starts keep its delays
-module _ (b : Batch) (counts : countsOk (b .n) (b .m) ≡ true) (ticks-each : all (λ i. ticksOk (ticks b i)) (count 0 (b .n)) ≡ true) (jobs-each : all (jobsOk (b .n)) (delaysOf b) ≡ true) (weight-each : all weightOk (delaysOf b) ≡ true) (few : fewClashes b ≡ true) where
+-- so it is in every record: a batch that passes 4, 5, 6 and 9, and whose edition and further lines are sound, is sound exactly when some starts keep its
+-- delays and ends
+module _ (b : Batch) (counts : countsOk (b .n) (b .m) ≡ true) (ticks-each : all (λ i. ticksOk (ticks b i)) (count 0 (b .n)) ≡ true) (jobs-each : all (jobsOk (b .n)) (delaysOf b) ≡ true) (weight-each : all weightOk (delaysOf b) ≡ true) (edition : soundEdition b ≡ true) (further : soundFurther b ≡ true) (few : fewClashes b ≡ true) where
   passed-inside : Inside (b .n) (delaysOf b)
   unfolding Inside
   passed-inside q m = let e = jobs-iff (b .n) q .0 (all-each (jobsOk (b .n)) (delaysOf b) jobs-each m) in (e .0, e .1)
 
-  pub sound-starts : (soundBatch b ≡ true) ↔ ((ts : List ℕ) × (length ts ≡ b .n) × KeepsDelays b ts)
+  pub sound-starts : (soundBatch b ≡ true) ↔ Meets b
   sound-starts =
       let met = met-starts b passed-inside in (
         λ e. met .0 (sound-passes b e .met),
-        λ t. passes-sound b (record { counts = counts; ticks-each = ticks-each; jobs-each = jobs-each; weight-each = weight-each; few = few; met = met .1 t }),
+        λ t. passes-sound b (record { counts = counts; ticks-each = ticks-each; jobs-each = jobs-each; weight-each = weight-each; edition = edition; further = further; few = few; met = met .1 t }),
       )
 
 -- ---- opening accepts exactly the batch files
@@ -103,7 +118,7 @@ open-format file b = (there, back)
 -- ---- its batch passes what soundness tests, and its fresh search is sound
 
 pub file-passes : (file : List ℕ) (b : Batch) → BatchFile file b → Passes b
-unfolding fewClashes
+unfolding fewClashes soundFurther
 file-passes file b f =
     let l = within-limits b (f .within) in
     record {
@@ -111,6 +126,8 @@ file-passes file b f =
       ticks-each = each-all (λ i. ticksOk (ticks b i)) (count 0 (b .n)) (λ i m. l .ticks-each i (omega (arith, count-some 0 (b .n) i m .1)));
       jobs-each = each-all (jobsOk (b .n)) (delaysOf b) (l .jobs-each);
       weight-each = each-all weightOk (delaysOf b) (l .weights-each);
+      edition = edition-sound b (l .edition-known);
+      further = each-all (windowOk b) (count 0 (b .n)) (λ i m. window-ok b (l .windows) i (omega (arith, count-some 0 (b .n) i m .1)));
       few = le-leb (length (clashes b)) mostClashes (f .few);
       met = met-starts b (within-inside b (f .within)) .1 (f .starts, f .starts-each, f .starts-keep);
     }

@@ -17,10 +17,10 @@ use Rattle.model.specs.declared.Turn.{Turn}
 use Rattle.model.specs.declared.Batch.{Batch}
 use Rattle.model.specs.declared.Search.{Search}
 use Rattle.model.specs.declared.Ran.{Ran}
-use Rattle.model.specs.Common.{count, all, keep, joined, isEmpty, isSome, if_then_else_, Outcome, refuse, accept, _>>=_, require}
+use Rattle.model.specs.Common.{between, count, all, keep, joined, isEmpty, isSome, if_then_else_, Outcome, refuse, accept, _>>=_, require}
 use Rattle.model.specs.Limits.{mostClashes, mostBudget, mostTotal}
-use Rattle.model.specs.Batch.{jobOf, ticks, mask, bit, delaysOf}
-use Rattle.model.specs.Plan.{start, Keeps, Holds, KeepsDelays, KeepsStations, Valid, stayIn, stay, finish, latency}
+use Rattle.model.specs.Batch.{jobOf, ticks, mask, bit, delaysOf, earliest, latest, earliestStarts, latestStarts}
+use Rattle.model.specs.Plan.{start, Keeps, Holds, KeepsDelays, KeepsEnds, KeepsStations, Valid, stayIn, stay, finish, latency}
 use Rattle.model.specs.Padded.{Padded, inBatch}
 use Rattle.model.specs.Clash.{Clash, clashing, distances, clashesOf, clashes}
 use Rattle.model.specs.Starts.{same, leastStarts}
@@ -31,14 +31,18 @@ use Rattle.model.specs.Run.{runRefusal, ranAs, ran, answered, answerOf, 
 use Rattle.model.specs.Calls.{Call, call, after}
 use Rattle.model.specs.Text.{planLines, planText}
 use Rattle.model.specs.Answers.{openTold}
-use Rattle.model.specs.Judge.{jobsIn, startsIn, readClaim, as17, jobsRight, keeps, valid, planRight, judgeText, judge, judgedAs, judged}
+use Rattle.model.specs.Judge.{jobsIn, startsIn, readClaim, as17, jobsRight, keeps, keepsEnds, valid, planRight, judgeText, judge, judgedAs, judged}
 use Rattle.model.proofs.BoolLaws.{same-test, T-true, true-T}
-use Rattle.model.proofs.ListLaws.{count-some}
+use Rattle.model.proofs.ListLaws.{all-each, each-all, count-some}
 use Rattle.model.proofs.SeqLaws.{listed-cong}
 use Rattle.model.proofs.BitLaws.{bit-none}
 use Rattle.model.proofs.FinishLaws.{last}
 use Rattle.model.proofs.LeaveLaws.{nodes-batch, running-leaves}
 use Rattle.model.proofs.ClashLaws.{Shared, clashing-shared, shared-clashing}
+
+-- tests that agree on a list
+all-cong : (f g : ℕ → Bool) (xs : List ℕ) → ((x : ℕ) → List·Memᴰ x xs → f x ≡ g x) → all f xs ≡ all g xs
+all-cong f g xs h = same-test (all f xs) (all g xs) (λ e. each-all g xs (λ x m. sym (h x m) ∙ all-each f xs e m)) (λ e. each-all f xs (λ x m. h x m ∙ all-each g xs e m))
 
 -- a tick of the first table that is not empty is one of the second
 stay-below : (job job′ : Job) (p q : ℕ) → ((a : ℕ) → a < p → (getD (job .masks) a 0 ≡ 0 → ⊥) → (a < q) × (getD (job′ .masks) a 0 ≡ 0 → ⊥)) → stayIn job p ≤ stayIn job′ q
@@ -125,24 +129,36 @@ module _ (b b′ : Batch) (p : Padded b b′) where
   unfolding Holds
   holds-by c c′ m ts i s x h t = let l = m i (t .0) s h (t .1) (T-true _ (t .3)) in (t .0, l .0, t .2, true-T (l .1))
 
-  valid-by : (c c′ : Batch) → Moves c′ c → c .n ≡ b .n → c′ .n ≡ c .n → delaysOf c ≡ delaysOf c′ → (ts : List ℕ) → Valid c ts → Valid c′ ts
-  unfolding KeepsDelays KeepsStations
-  valid-by c c′ m n n′ d ts v =
+  valid-by : (c c′ : Batch) → Moves c′ c → c .n ≡ b .n → c′ .n ≡ c .n → delaysOf c ≡ delaysOf c′ → ((i : ℕ) → i < b .n → (earliest c′ i ≡ earliest c i) × (latest c′ i ≡ latest c i)) → (ts : List ℕ) → Valid c ts → Valid c′ ts
+  unfolding KeepsDelays KeepsEnds KeepsStations
+  valid-by c c′ m n n′ d ends ts v =
       record {
         starts = v .starts ∙ sym n′;
         delays = subst (λ (qs : List Delay). (q : Delay) → List·Memᴰ q qs → Keeps ts q) d (v .delays);
+        ends = λ i h. let e = ends i (omega arith) in let k = v .ends i (omega arith) in (omega (arith, e .0, k .0), omega (arith, e .1, k .1));
         stations = λ i j s x r l q h g.
             v .stations i j s x r (omega arith) q (holds-by c′ c m ts i s x (omega arith) h) (holds-by c′ c m ts j s x (omega arith) g);
       }
 
   pub padded-valid : (ts : List ℕ) → Valid b′ ts ↔ Valid b ts
-  padded-valid ts = (valid-by b′ b more (p .jobs) (sym (p .jobs)) (p .delays) ts, valid-by b b′ less refl (p .jobs) (sym (p .delays)) ts)
+  padded-valid ts = (
+    valid-by b′ b more (p .jobs) (sym (p .jobs)) (p .delays) (λ i h. let e = p .ends i h in (sym (e .1), sym (e .2))) ts,
+    valid-by b b′ less refl (p .jobs) (sym (p .delays)) (λ i h. let e = p .ends i h in (e .1, e .2)) ts,
+  )
 
   -- ---- the search
 
+  earliest-same : earliestStarts b′ ≡ earliestStarts b
+  unfolding earliestStarts
+  earliest-same = ap (λ (n : ℕ). map (earliest b′) (count 0 n)) (p .jobs) ∙ listed-cong (earliest b′) (earliest b) (b .n) (λ i h. p .ends i h .1)
+
+  latest-same : latestStarts b′ ≡ latestStarts b
+  unfolding latestStarts
+  latest-same = ap (λ (n : ℕ). map (latest b′) (count 0 n)) (p .jobs) ∙ listed-cong (latest b′) (latest b) (b .n) (λ i h. p .ends i h .2)
+
   starts-same : (cs : List Clash) (ts : List Turn) → startsAt cs b′ ts ≡ startsAt cs b ts
   unfolding startsAt inequalities
-  starts-same cs ts = ap₂ (λ (n : ℕ) (qs : List Delay). leastStarts n (qs ++ map (turned cs) ts)) (p .jobs) (p .delays)
+  starts-same cs ts = λ z. leastStarts (earliest-same z) (latest-same z) (p .delays z ++ map (turned cs) ts)
 
   branch-same : (q : Place) (ss : List ℕ) (o : Option ℕ) → branch b′ q ss o ≡ branch b q ss o
   unfolding branch becomeBest
@@ -196,7 +212,13 @@ module _ (b b′ : Batch) (p : Padded b b′) where
 
   met-same : delaysMet b′ ≡ delaysMet b
   unfolding delaysMet
-  met-same = ap₂ (λ (n : ℕ) (qs : List Delay). isSome (leastStarts n qs)) (p .jobs) (p .delays)
+  met-same = λ z. isSome (leastStarts (earliest-same z) (latest-same z) (p .delays z))
+
+  ends-same : (ts : List ℕ) → keepsEnds b′ ts ≡ keepsEnds b ts
+  unfolding keepsEnds
+  ends-same ts =
+      ap (λ (n : ℕ). all (λ i. between (earliest b′ i) (start ts i) (latest b′ i)) (count 0 n)) (p .jobs)
+      ∙ all-cong _ _ (count 0 (b .n)) (λ i m. let e = p .ends i (omega (arith, count-some 0 (b .n) i m .1)) in ap₂ (λ (x y : ℕ). between x (start ts i) y) (e .1) (e .2))
 
   judge-same : (text : List ℕ) → judgeText b′ text ≡ judgeText b text
   unfolding judgeText jobsRight planRight valid
@@ -204,7 +226,7 @@ module _ (b b′ : Batch) (p : Padded b b′) where
       λ z.
       as17 (readClaim text) >>= λ c.
       require 18 (eqb (c .n) (p .jobs z) && same (jobsIn c) (count 0 (p .jobs z))) >>= λ u.
-      require 19 (all (keeps (startsIn c)) (p .delays z) && not (isSome (firstMet (padded-clashes z) (startsIn c) 0)) && eqb (padded-latency (startsIn c) z) (c .latency))
+      require 19 (all (keeps (startsIn c)) (p .delays z) && ends-same (startsIn c) z && not (isSome (firstMet (padded-clashes z) (startsIn c) 0)) && eqb (padded-latency (startsIn c) z) (c .latency))
 
   module _ (file file′ : List ℕ) (read : readFile file ≡ accept b) (read′ : readFile file′ ≡ accept b′) where
     abbrev opening : Bool → Bool → Batch → Outcome Batch

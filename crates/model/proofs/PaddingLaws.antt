@@ -1,6 +1,7 @@
 -- Every padding is there: a batch within the limits with as many empty ticks added at the end of each table as it has room for, and the file of it.
 use Prim.Native.Nat.{ℕ, _+_, _≤_, _<_}
-use mathlib.Core.Path.{_≡_, refl, ap, ap₂, sym, _∙_, subst}
+use mathlib.Core.Path.{_≡_, refl, ap, sym, _∙_, subst}
+use mathlib.Core.Logic.{inl, inr}
 use mathlib.Core.List.{List, map, List·Memᴰ}
 use native.Mathlib.Omega.{arith}
 use native.Mathlib.Decide.{decLt}
@@ -12,11 +13,14 @@ use Rattle.model.specs.declared.Job.{Job}
 use Rattle.model.specs.Common.{count, pad, accept}
 use Rattle.model.specs.Limits.{mostJobs, mostTicks}
 use Rattle.model.specs.Batch.{blankJob, jobOf, ticks, mask, delaysOf}
-use Rattle.model.specs.Format.{masksOf, jobsOf, batchFile, Within, padJob, batchOf, blanked}
+use Rattle.model.specs.Window.{windowLines, windowsOf}
+use Rattle.model.specs.Format.{masksOf, jobsOf, furtherOf, batchFile, Edition, Within, padJob, batchOf, blanked}
 use Rattle.model.specs.Padded.{Padded}
 use Rattle.model.specs.Open.{readFile}
 use Rattle.model.proofs.SeqLaws.{map-map, listed-at, listed-length, listed-cong, pad-at, pad-length}
-use Rattle.model.proofs.FileLaws.{jobs-of, delays-of, delays-length, file-read}
+use Rattle.model.proofs.LimitLaws.{within-limits}
+use Rattle.model.proofs.WindowLaws.{lines-within, own-ends}
+use Rattle.model.proofs.FileLaws.{FurtherOk, limits-further, jobs-of, delays-of, further-of, delays-length, file-read}
 
 -- the first p places of a padded list, padded again
 pad-again : (size p : ℕ) (xs : List ℕ) → length xs ≤ p → p ≤ size → pad size 0 (map (λ a. getD (pad size 0 xs) a 0) (count 0 p)) ≡ pad size 0 xs
@@ -39,7 +43,7 @@ module _ (b : Batch) (w : Within b) (more : ℕ → ℕ) (room : (i : ℕ) → i
   longer i = record { ticks = ticks b i + more i; masks = pad mostTicks 0 (masksOf (jobOf b i)) }
 
   abbrev padded : Batch
-  padded = batchOf (map longer (count 0 (b .n))) (delaysOf b)
+  padded = batchOf (b .edition) (map longer (count 0 (b .n))) (delaysOf b) (furtherOf b)
 
   -- ---- what it has at each place
 
@@ -48,7 +52,18 @@ module _ (b : Batch) (w : Within b) (more : ℕ → ℕ) (room : (i : ℕ) → i
   n-same = listed-length longer (b .n)
 
   delays-same : delaysOf padded ≡ delaysOf b
-  delays-same = delays-of (map longer (count 0 (b .n))) (delaysOf b)
+  delays-same = delays-of (b .edition) (map longer (count 0 (b .n))) (delaysOf b) (furtherOf b)
+
+  few : length (map longer (count 0 (b .n))) ≤ mostJobs
+  few = omega (arith, listed-length longer (b .n), w .jobs .1)
+
+  further-ok : FurtherOk (length (map longer (count 0 (b .n)))) few (furtherOf b)
+  further-ok =
+      let own : (f : b .n ≤ mostJobs) → FurtherOk (b .n) f (furtherOf b) = λ f. limits-further b f (within-limits b w) in
+      subst (λ (n : ℕ). (f : n ≤ mostJobs) → FurtherOk n f (furtherOf b)) (sym (listed-length longer (b .n))) own few
+
+  further-same : furtherOf padded ≡ furtherOf b
+  further-same = further-of (b .edition) (map longer (count 0 (b .n))) (delaysOf b) (furtherOf b) few further-ok
 
   job-at : (i : ℕ) → i < b .n → jobOf padded i ≡ longer i
   unfolding jobOf batchOf
@@ -78,9 +93,11 @@ module _ (b : Batch) (w : Within b) (more : ℕ → ℕ) (room : (i : ℕ) → i
   -- ---- it is within the limits, and its unused places are blank
 
   within : Within padded
-  unfolding batchOf
+  unfolding batchOf Edition
   within =
       record {
+        edition-known = known (w .edition-known);
+        windows = lines-within padded few (furtherOf b .windows) refl (further-ok .windows);
         jobs = subst (λ (n : ℕ). (1 ≤ n) × (n ≤ mostJobs)) (sym n-same) (w .jobs);
         delays = omega (arith, delays-length b, w .delays);
         ticks-each = λ i h. let l : i < b .n = omega (arith, n-same) in (omega (arith, ticks-at i l, w .ticks-each i l .0), omega (arith, ticks-at i l, room i l));
@@ -88,6 +105,10 @@ module _ (b : Batch) (w : Within b) (more : ℕ → ℕ) (room : (i : ℕ) → i
         ends-each = λ q k. let e = w .ends-each q (subst (List·Memᴰ q) delays-same k) in (omega (arith, n-same, e .0), omega (arith, n-same, e .1), e .2);
         weight-each = λ q k. w .weight-each q (subst (List·Memᴰ q) delays-same k);
       }
+    where
+      known : Edition b → Edition padded
+      known (inl e) = inl (e .0, further-same ∙ e .1)
+      known (inr e) = inr e
 
   job-blank : (i : ℕ) → i < b .n → padJob (longer i) ≡ longer i
   unfolding padJob masksOf jobOf ticks mask
@@ -96,10 +117,18 @@ module _ (b : Batch) (w : Within b) (more : ℕ → ℕ) (room : (i : ℕ) → i
       (pad-again mostTicks (ticks b i + more i) (masksOf (jobOf b i)) (omega (arith, listed-length (mask b i) (ticks b i))) (room i h))
 
   blank : blanked padded ≡ padded
-  unfolding blanked
+  unfolding blanked batchOf
   blank =
-      ap₂ (λ (js : List Job) (qs : List Delay). batchOf (map padJob js) qs) (jobs-of (map longer (count 0 (b .n))) (delaysOf b)) delays-same
-      ∙ ap (λ (js : List Job). batchOf js (delaysOf b)) (map-map padJob longer (λ i. padJob (longer i)) (λ i. refl) (count 0 (b .n)) ∙ listed-cong _ longer (b .n) job-blank)
+      (λ z. batchOf (b .edition) (map padJob (jobs-of (b .edition) (map longer (count 0 (b .n))) (delaysOf b) (furtherOf b) z)) (delays-same z) (further-same z))
+      ∙ ap (λ (js : List Job). batchOf (b .edition) js (delaysOf b) (furtherOf b)) (map-map padJob longer (λ i. padJob (longer i)) (λ i. refl) (count 0 (b .n)) ∙ listed-cong _ longer (b .n) job-blank)
+
+  edition-same : padded .edition ≡ b .edition
+  unfolding batchOf
+  edition-same = refl
+
+  windows-at : padded .windows ≡ windowsOf (windowLines b)
+  unfolding batchOf furtherOf
+  windows-at = refl
 
   -- so it is the padded batch, and what its file is read as
   pub every-padding : (b′ : Batch) × (readFile (batchFile b′) ≡ accept b′) × Padded b b′ × ((i : ℕ) → i < b .n → ticks b′ i ≡ ticks b i + more i)
@@ -107,8 +136,10 @@ module _ (b : Batch) (w : Within b) (more : ℕ → ℕ) (room : (i : ℕ) → i
     padded,
     file-read padded within ∙ ap accept blank,
     record {
+      edition = edition-same;
       jobs = n-same;
       delays = delays-same;
+      ends = λ i h. own-ends b (w .windows) padded windows-at i h (omega (arith, w .jobs .1));
       longer = λ i h. omega (arith, ticks-at i h);
       same = mask-in;
       added = λ i a h g k. mask-past i a h g;

@@ -1,16 +1,20 @@
--- The numbers that each call refuses with: opening 1 to 10, a run 11 to 14, the plan text 12, 15 or 16, the batch text 12 or 16, judging 1 to 10
--- and 17 to 19. A chain of steps refuses only with numbers that its steps refuse with.
+-- The numbers that each call refuses with: opening 1 to 10 and 20, a run 11 to 14, the plan text 12, 15 or 16, the batch text 12 or 16, judging those of
+-- opening and 17 to 19. A chain of steps refuses only with numbers that its steps refuse with.
 use Prim.Native.Nat.{ℕ, zero, suc, _≤_}
 use mathlib.Core.Path.{_≡_, refl, sym, subst}
 use mathlib.Core.Logic.{_⊎_, inl, inr}
 use mathlib.Core.Bool.{Bool, true, false}
 use mathlib.Core.Option.{Option, none, some}
-use mathlib.Core.List.{List}
+use mathlib.Core.List.{List, [], _∷_, _++_}
 use native.Mathlib.Omega.{arith}
 use Rattle.model.specs.declared.Search.{Search}
-use Rattle.model.specs.Common.{Outcome, refuse, accept, _>>=_, require, given}
-use Rattle.model.specs.Line.{readLine}
-use Rattle.model.specs.Open.{header, job, delay, due, readOne, readAll, readFile, openFile}
+use Rattle.model.specs.Common.{if_then_else_, isEmpty, Outcome, refuse, accept, _>>=_, require, given}
+use lib.ListN.{length}
+use lib.Dec.{eqb}
+use Rattle.model.specs.Line.{readLine, at}
+use Rattle.model.specs.Format.{noFurther}
+use Rattle.model.specs.Window.{WindowLine, window}
+use Rattle.model.specs.Open.{header, job, delay, due, readOne, readAll, readKind, nothingLeft, readFurther, readRest, readFile, openFile}
 use Rattle.model.specs.Run.{runRefusal}
 use Rattle.model.specs.Text.{planText, batchText, fitting}
 use Rattle.model.specs.Judge.{readClaim, as17, judgeText, judge}
@@ -51,25 +55,25 @@ module _ {P : ℕ → Type 0} where
 -- ---- opening
 
 abbrev pub OpenNumber : ℕ → Type 0
-OpenNumber k = (1 ≤ k) × (k ≤ 10)
+OpenNumber k = ((1 ≤ k) × (k ≤ 10)) ⊎ (k ≡ 20)
 
 only-header : (f : List ℕ) → Only OpenNumber (header f)
 unfolding header
 only-header f =
-    only-after 2 _ _ (omega arith, omega arith) (only-after 3 _ _ (omega arith, omega arith) (only-after 4 _ _ (omega arith, omega arith) (only-accept _)))
+    only-after 2 _ _ (inl (omega arith, omega arith)) (only-after 3 _ _ (inl (omega arith, omega arith)) (only-after 4 _ _ (inl (omega arith, omega arith)) (only-accept _)))
 
 only-job : (f : List ℕ) → Only OpenNumber (job f)
 unfolding job
-only-job f = only-after 2 _ _ (omega arith, omega arith) (only-after 4 _ _ (omega arith, omega arith) (only-accept _))
+only-job f = only-after 2 _ _ (inl (omega arith, omega arith)) (only-after 4 _ _ (inl (omega arith, omega arith)) (only-accept _))
 
 only-delay : (n : ℕ) (f : List ℕ) → Only OpenNumber (delay n f)
 unfolding delay
 only-delay n f =
-    only-after 2 _ _ (omega arith, omega arith) (only-after 5 _ _ (omega arith, omega arith) (only-after 6 _ _ (omega arith, omega arith) (only-accept _)))
+    only-after 2 _ _ (inl (omega arith, omega arith)) (only-after 5 _ _ (inl (omega arith, omega arith)) (only-after 6 _ _ (inl (omega arith, omega arith)) (only-accept _)))
 
 only-due : (file : List ℕ) → Only OpenNumber (due file)
 unfolding due
-only-due file = only-after 7 _ _ (omega arith, omega arith) (only-given 1 (readLine file) (omega arith, omega arith))
+only-due file = only-after 7 _ _ (inl (omega arith, omega arith)) (only-given 1 (readLine file) (inl (omega arith, omega arith)))
 
 module _ {A : Type 0} (frame : List ℕ → Outcome A) (h : (f : List ℕ) → Only OpenNumber (frame f)) where
   only-one : (file : List ℕ) → Only OpenNumber (readOne frame file)
@@ -81,20 +85,54 @@ module _ {A : Type 0} (frame : List ℕ → Outcome A) (h : (f : List ℕ) → O
   only-all zero file = only-accept _
   only-all (suc k) file = only-bind _ (only-one file) (λ (x, rest). only-bind _ (only-all k rest) (λ (xs, end). only-accept _))
 
+only-window : (n : ℕ) (before : List WindowLine) (f : List ℕ) → Only OpenNumber (window n before f)
+unfolding window
+only-window n before f = only-after 2 _ _ (inl (omega arith, omega arith)) (only-after 20 _ _ (inr refl) (only-accept _))
+
+module _ {A : Type 0} (kind : ℕ) (frame : List A → List ℕ → Outcome A) (h : (before : List A) (f : List ℕ) → Only OpenNumber (frame before f)) where
+  only-kind : (k : ℕ) (before : List A) (file : List ℕ) → Only OpenNumber (readKind kind frame k before file)
+  unfolding readKind
+  only-kind zero before file = only-accept _
+  only-kind (suc k) before [] = only-accept _
+  only-kind (suc k) before (c ∷ cs) = only-bind _ (only-given 1 (readLine (c ∷ cs)) (inl (omega arith, omega arith))) (λ (f, rest). go f rest (eqb (at f 0) kind) (only-kind k))
+    where
+      go : (f rest : List ℕ) (t : Bool) → ((before : List A) (file : List ℕ) → Only OpenNumber (readKind kind frame k before file))
+          → Only {A = List A × List ℕ} OpenNumber (elim t [ true ↦ (frame before f >>= λ x. readKind kind frame k (before ++ (x ∷ [])) rest) | false ↦ accept (before, c ∷ cs) ])
+      go f rest true rec = only-bind _ (h before f) (λ x. rec (before ++ (x ∷ [])) rest)
+      go f rest false rec = only-accept _
+
+only-nothing : (end : List ℕ) → Only OpenNumber (nothingLeft end)
+unfolding nothingLeft
+only-nothing [] = only-accept tt
+only-nothing (c ∷ cs) = only-bind _ (only-given 1 (readLine (c ∷ cs)) (inl (omega arith, omega arith))) (λ p. only-refuse (inl (omega arith, omega arith)))
+
+only-further : (n : ℕ) (file : List ℕ) → Only OpenNumber (readFurther n file)
+unfolding readFurther
+only-further n file =
+    only-bind _ (only-kind 0xA3 (window n) (only-window n) (length file) [] file) (λ (windows, end). only-bind _ (only-nothing end) (λ u. only-accept _))
+
+only-rest : (edition n : ℕ) (end : List ℕ) → Only OpenNumber (readRest edition n end)
+unfolding readRest if_then_else_
+only-rest edition n end = go (eqb edition 1)
+  where
+    go : (t : Bool) → Only OpenNumber (if t then (require 8 (isEmpty end) >>= λ u. accept noFurther) else readFurther n end)
+    go true = only-after 8 _ _ (inl (omega arith, omega arith)) (only-accept _)
+    go false = only-further n end
+
 only-file : (file : List ℕ) → Only OpenNumber (readFile file)
 unfolding readFile
 only-file file =
-    only-bind _ (only-one header only-header file) (λ (counts, afterHeader).
-    only-bind _ (only-all job only-job (counts .0) afterHeader) (λ (jobs, afterJobs).
-    only-bind _ (only-all (delay (counts .0)) (only-delay (counts .0)) (counts .1) afterJobs) (λ (delays, end).
-    only-after 8 _ _ (omega arith, omega arith) (only-accept _))))
+    only-bind _ (only-one header only-header file) (λ ((edition, n, m), afterHeader).
+    only-bind _ (only-all job only-job n afterHeader) (λ (jobs, afterJobs).
+    only-bind _ (only-all (delay n) (only-delay n) m afterJobs) (λ (delays, end).
+    only-bind _ (only-rest edition n end) (λ further. only-accept _))))
 
 only-open : (file : List ℕ) → Only OpenNumber (openFile file)
 unfolding openFile
 only-open file =
-    only-bind _ (only-file file) (λ b. only-after 9 _ _ (omega arith, omega arith) (only-after 10 _ _ (omega arith, omega arith) (only-accept b)))
+    only-bind _ (only-file file) (λ b. only-after 9 _ _ (inl (omega arith, omega arith)) (only-after 10 _ _ (inl (omega arith, omega arith)) (only-accept b)))
 
--- opening refuses with 1 to 10
+-- opening refuses with 1 to 10, or 20
 pub open-refusals : (file : List ℕ) (k : ℕ) → openFile file ≡ refuse k → OpenNumber k
 open-refusals file = only-open file .number
 
@@ -159,6 +197,6 @@ only-judge file text =
     only-bind _ (only-as17 (readClaim text) (inr (omega arith, omega arith))) (λ c.
     only-after 18 _ _ (inr (omega arith, omega arith)) (only-require 19 _ (inr (omega arith, omega arith)))))
 
--- judging refuses with 1 to 10, or 17 to 19
+-- judging refuses as opening does, or with 17 to 19
 pub judge-refusals : (file text : List ℕ) (k : ℕ) → judge file text ≡ refuse k → JudgeNumber k
 judge-refusals file text = only-judge file text .number

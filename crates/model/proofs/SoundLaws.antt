@@ -1,7 +1,7 @@
 -- Sound records: going on from any sound record by 01's steps keeps it sound, as long as total stays within its limit, and its path never
 -- outgrows its 1,024 places. Soundness is a test; here it is read as the facts it tests, and back.
 use Prim.Native.Nat.{ℕ, zero, suc, _+_, _-_, _≤_, _<_}
-use mathlib.Core.Path.{_≡_, refl, ap, sym, _∙_, subst}
+use mathlib.Core.Path.{_≡_, refl, ap, ap₂, sym, _∙_, subst}
 use mathlib.Core.Logic.{_⊎_, inl, inr}
 use mathlib.Core.Bool.{Bool, true, false, not, _&&_, _||_}
 use mathlib.Core.Option.{none, some}
@@ -23,11 +23,14 @@ use Rattle.model.specs.Plan.{start, latency}
 use Rattle.model.specs.Clash.{Clash, clashes}
 use Rattle.model.specs.Search.{Incumbent, Place, startsAt, firstMet, becomeBest, next, empty, isTurn, turnsOf, placeOf, searchOf, node, nodesOn, nodes}
 use Rattle.model.specs.Open.{countsOk, ticksOk, jobsOk, weightOk, fewClashes, delaysMet}
-use Rattle.model.specs.Sound.{soundBatch, distinct, soundTurns, soundPath, soundBest, sound}
+use Rattle.model.specs.Window.{windowLines, windowOk}
+use Rattle.model.specs.Format.{Further, furtherOf, noFurther, Edition}
+use Rattle.model.specs.Sound.{soundEdition, soundFurther, soundBatch, distinct, soundTurns, soundPath, soundBest, sound}
 use Rattle.model.proofs.BoolLaws.{apart, both, and}
 use Rattle.model.proofs.ListLaws.{any-some, some-any, all-each, each-all, map-some, count-some, some-count}
 use Rattle.model.proofs.StartsLaws.{Different}
 use Rattle.model.proofs.BackLaws.{numbers}
+use Rattle.model.proofs.WindowLaws.{window-soon}
 use Rattle.model.proofs.NodeLaws.{Fits, Named, at-length}
 use Rattle.model.proofs.GoodLaws.{GoodTurns, good-named, good-length, Good, step-next}
 use Rattle.model.proofs.BoundLaws.{starts-bound, latency-bound}
@@ -41,6 +44,8 @@ pub record Passes (b : Batch) : Type 0 where
   pub ticks-each : all (λ i. ticksOk (ticks b i)) (count 0 (b .n)) ≡ true
   pub jobs-each : all (jobsOk (b .n)) (delaysOf b) ≡ true
   pub weight-each : all weightOk (delaysOf b) ≡ true
+  pub edition : soundEdition b ≡ true
+  pub further : soundFurther b ≡ true
   pub few : fewClashes b ≡ true
   pub met : delaysMet b ≡ true
 
@@ -49,17 +54,26 @@ unfolding soundBatch
 sound-passes b e =
     let f = both _ (delaysMet b) e in
     let g = both _ (fewClashes b) (f .0) in
-    let h = both _ (all weightOk (delaysOf b)) (g .0) in
+    let x = both _ (soundFurther b) (g .0) in
+    let y = both _ (soundEdition b) (x .0) in
+    let h = both _ (all weightOk (delaysOf b)) (y .0) in
     let i = both _ (all (jobsOk (b .n)) (delaysOf b)) (h .0) in
     let j = both (countsOk (b .n) (b .m)) (all (λ i. ticksOk (ticks b i)) (count 0 (b .n))) (i .0) in
-    record { counts = j .0; ticks-each = j .1; jobs-each = i .1; weight-each = h .1; few = g .1; met = f .1 }
+    record { counts = j .0; ticks-each = j .1; jobs-each = i .1; weight-each = h .1; edition = y .1; further = x .1; few = g .1; met = f .1 }
 
 pub passes-sound : (b : Batch) → Passes b → soundBatch b ≡ true
 unfolding soundBatch
-passes-sound b p = and (and (and (and (and (p .counts) (p .ticks-each)) (p .jobs-each)) (p .weight-each)) (p .few)) (p .met)
+passes-sound b p =
+    and (and (and (and (and (and (and (p .counts) (p .ticks-each)) (p .jobs-each)) (p .weight-each)) (p .edition)) (p .further)) (p .few)) (p .met)
+
+-- an edition that the format knows, with the further lines that it may have
+pub edition-sound : (b : Batch) → Edition b → soundEdition b ≡ true
+unfolding soundEdition Edition furtherOf noFurther isEmpty
+edition-sound b (inl e) = ap₂ (λ (x : ℕ) (f : Further). eqb x 2 || (eqb x 1 && isEmpty (f .windows))) (e .0) (e .1)
+edition-sound b (inr e) = ap (λ (x : ℕ). eqb x 2 || (eqb x 1 && isEmpty (windowLines b))) e
 
 pub passes-fit : (b : Batch) → Passes b → Fits b
-unfolding countsOk ticksOk jobsOk weightOk fewClashes between
+unfolding countsOk ticksOk jobsOk weightOk fewClashes between soundFurther
 passes-fit b p =
     record {
       jobs = leb-true (b .n) mostJobs (both (leb 1 (b .n)) (leb (b .n) mostJobs) (both _ (leb (b .m) mostDelays) (p .counts) .0) .1);
@@ -69,6 +83,7 @@ passes-fit b p =
           let g = both (ltb (q .from) (b .n)) (ltb (q .to) (b .n)) h in
           (ltb-true (q .from) (b .n) (g .0), ltb-true (q .to) (b .n) (g .1));
       slow = λ q m. both (leZ (negsuc (mostWeight - 1)) (q .weight)) (leZ (q .weight) (pos mostWeight)) (all-each weightOk (delaysOf b) (p .weight-each) m) .1;
+      soon = λ i h. window-soon b i (all-each (windowOk b) (count 0 (b .n)) (p .further) (some-count 0 (b .n) i (omega arith) (omega arith)));
       few = leb-true (length (clashes b)) mostClashes (p .few);
     }
 

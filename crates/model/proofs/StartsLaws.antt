@@ -8,18 +8,20 @@ use mathlib.Core.List.{List, [], _∷_, map, List·Memᴰ, List·Memᴰ·head, L
 use native.Mathlib.Omega.{arith}
 use native.Mathlib.Nat.{le-refl, le-of-eq}
 use native.Mathlib.Decide.{decLt, decLe}
-use lib.ListN.{length, getD, length-map, length-replicate, List·getD-eq-default}
-use lib.Dec.{eqb}
+use lib.ListN.{length, getD, length-map, List·getD-eq-default}
+use lib.Dec.{leb, eqb}
 use lib.Seq.{ext-getD}
-use borrow.Author.Tests.{eqb-true, eqb-false, eq-eqb}
-use Rattle.model.specs.Common.{count, if_then_else_}
+use borrow.Author.Tests.{leb-true, le-leb, eqb-true, eqb-false, eq-eqb}
+use Rattle.model.specs.Common.{count, all, if_then_else_}
 use Rattle.model.specs.declared.Delay.{Delay}
-use Rattle.model.specs.Plan.{start, Keeps}
-use Rattle.model.specs.Starts.{plus, raised, rounds, same, firstStarts, leastStarts}
+use Rattle.model.specs.declared.Batch.{Batch}
+use Rattle.model.specs.Batch.{earliest, latest, earliestStarts, latestStarts}
+use Rattle.model.specs.Plan.{start, Keeps, KeepsEnds}
+use Rattle.model.specs.Starts.{plus, raised, rounds, same, inTime, leastStarts}
 use Rattle.model.proofs.PlusLaws.{plus-mono, plus-shift, plus-le, le-plus}
-use Rattle.model.proofs.BoolLaws.{apart}
-use Rattle.model.proofs.ListLaws.{count-length}
-use Rattle.model.proofs.SeqLaws.{blanks-at}
+use Rattle.model.proofs.BoolLaws.{apart, both, and}
+use Rattle.model.proofs.ListLaws.{count-length, all-each, each-all, count-some, some-count}
+use Rattle.model.proofs.SeqLaws.{listed-at, listed-length}
 
 -- ---- one round
 
@@ -332,83 +334,154 @@ unfolding same
 same-refl [] = refl
 same-refl (x ∷ xs) = rw (eq-eqb x x refl, same-refl xs)
 
-pub first-zero : (n j : ℕ) → getD (firstStarts n) j 0 ≡ 0
-unfolding firstStarts
-first-zero n j = blanks-at n j 0
-
-pub first-length : (n : ℕ) → length (firstStarts n) ≡ n
-unfolding firstStarts
-first-length n = length-replicate n 0
-
 -- inequalities between the n jobs
 unfoldable pub Inside : ℕ → List Delay → Type 0
 Inside n qs = (q : Delay) → List·Memᴰ q qs → (q .from < n) × (q .to < n)
 
--- a plan's starts solve what they keep
-keeps-solves : (n : ℕ) (qs : List Delay) (us : List ℕ) → ((q : Delay) → List·Memᴰ q qs → Keeps us q) → Solves qs (firstStarts n) (start us)
-unfolding Keeps
-keeps-solves n qs us k =
-    record {
-      above = λ j. omega (arith, first-zero n j);
-      keeps = λ q m. plus-le (q .weight) (start us (q .from)) (start us (q .to)) (k q m);
-    }
+-- starts that keep the inequalities and both ends of every job
+pub record Solution (first last : List ℕ) (qs : List Delay) (us : List ℕ) : Type 0 where
+  pub keeps : (q : Delay) → List·Memᴰ q qs → Keeps us q
+  pub above : (j : ℕ) → j < length first → getD first j 0 ≤ start us j
+  pub below : (j : ℕ) → j < length first → start us j ≤ getD last j 0
 
-module _ (n : ℕ) (qs : List Delay) where
-  -- least starts are a round that the one before it did not differ from
-  pub least-round : (ts : List ℕ) → leastStarts n qs ≡ some ts → (rounds qs (firstStarts n) n ≡ ts) × (rounds qs (firstStarts n) (pred n) ≡ ts)
-  unfolding leastStarts if_then_else_
-  least-round ts e = go (same (rounds qs (firstStarts n) n) (rounds qs (firstStarts n) (pred n))) refl e
+module _ (first last : List ℕ) (qs : List Delay) where
+  -- past the jobs nothing has an earliest start
+  pub above-each : (us : List ℕ) → Solution first last qs us → (j : ℕ) → getD first j 0 ≤ start us j
+  above-each us s j = go (decLt j (length first))
     where
-      go : (p : Bool) → same (rounds qs (firstStarts n) n) (rounds qs (firstStarts n) (pred n)) ≡ p → (if p then some (rounds qs (firstStarts n) n) else none) ≡ some ts → (rounds qs (firstStarts n) n ≡ ts) × (rounds qs (firstStarts n) (pred n) ≡ ts)
-      go true h e = let z : rounds qs (firstStarts n) n ≡ ts = cc in (z, sym (same-eq _ _ h) ∙ z)
+      go : Dec (j < length first) → getD first j 0 ≤ start us j
+      go (yes h) = s .above j h
+      go (no h) = omega (arith, List·getD-eq-default first 0 {n = j} (omega arith))
+
+  -- as a function
+  solution-solves : (us : List ℕ) → Solution first last qs us → Solves qs first (start us)
+  unfolding Keeps
+  solution-solves us s =
+      record { above = above-each us s; keeps = λ q m. plus-le (q .weight) (start us (q .from)) (start us (q .to)) (s .keeps q m) }
+
+  abbrev n : ℕ
+  n = length first
+
+  -- what was tested of least starts
+  record Tested (ts : List ℕ) : Type 0 where
+    is : rounds qs first n ≡ ts
+    before : rounds qs first (pred n) ≡ ts
+    in-time : inTime last ts ≡ true
+
+  tested : (ts : List ℕ) → leastStarts first last qs ≡ some ts → Tested ts
+  unfolding leastStarts if_then_else_
+  tested ts e = go (same (rounds qs first n) (rounds qs first (pred n)) && inTime last (rounds qs first n)) refl e
+    where
+      go : (p : Bool) → (same (rounds qs first n) (rounds qs first (pred n)) && inTime last (rounds qs first n)) ≡ p → (if p then some (rounds qs first n) else none) ≡ some ts → Tested ts
+      go true h e =
+          let z : rounds qs first n ≡ ts = cc in
+          let r = both (same (rounds qs first n) (rounds qs first (pred n))) _ h in
+          record { is = z; before = sym (same-eq _ _ (r .0)) ∙ z; in-time = ap (inTime last) (sym z) ∙ r .1 }
       go false h e = let z : _≡_ {A = ℕ} 0 1 = cc in absurd (omega arith)
 
-  pub least-length : (ts : List ℕ) → leastStarts n qs ≡ some ts → length ts ≡ n
-  least-length ts e = ap length (sym (least-round ts e .0)) ∙ rounds-length qs (firstStarts n) n ∙ first-length n
+  -- least starts are a round that the one before it did not differ from
+  pub least-round : (ts : List ℕ) → leastStarts first last qs ≡ some ts → (rounds qs first n ≡ ts) × (rounds qs first (pred n) ≡ ts)
+  least-round ts e = let t = tested ts e in (t .is, t .before)
 
-  -- they keep the inequalities
-  pub least-keeps : Inside n qs → (ts : List ℕ) → leastStarts n qs ≡ some ts → (q : Delay) → List·Memᴰ q qs → Keeps ts q
-  unfolding Inside Keeps start reach after
-  least-keeps inside ts e q m =
-      let z = least-round ts e in
-      let r = raised-in qs (rounds qs (firstStarts n) (pred n)) q m in
-      let h : q .to < length (firstStarts n) = omega (arith, first-length n, inside q m .1) in
-      let one : suc (pred n) ≡ n = omega (arith, inside q m .1) in
-      le-plus (q .weight) (getD ts (q .from) 0) (getD ts (q .to) 0)
-      (omega (
-        arith,
-        r,
-        ap (λ (l : List ℕ). plus (getD l (q .from) 0) (q .weight)) (z .1),
-        after-suc qs (firstStarts n) (pred n) (q .to) h,
-        ap (λ (k : ℕ). getD (rounds qs (firstStarts n) k) (q .to) 0) one,
-        ap (λ (l : List ℕ). getD l (q .to) 0) (z .0),
-      ))
+  pub least-length : (ts : List ℕ) → leastStarts first last qs ≡ some ts → length ts ≡ n
+  least-length ts e = ap length (sym (least-round ts e .0)) ∙ rounds-length qs first n
+
+  -- they keep the inequalities and the ends
+  pub least-solution : Inside n qs → (ts : List ℕ) → leastStarts first last qs ≡ some ts → Solution first last qs ts
+  unfolding Inside Keeps start reach after inTime rounds
+  least-solution inside ts e = record { keeps = keeps; above = above; below = below }
+    where
+      z : Tested ts
+      z = tested ts e
+
+      keeps : (q : Delay) → List·Memᴰ q qs → Keeps ts q
+      keeps q m =
+          let one : suc (pred n) ≡ n = omega (arith, inside q m .1) in
+          le-plus (q .weight) (getD ts (q .from) 0) (getD ts (q .to) 0)
+          (omega (
+            arith,
+            raised-in qs (rounds qs first (pred n)) q m,
+            ap (λ (l : List ℕ). plus (getD l (q .from) 0) (q .weight)) (z .before),
+            after-suc qs first (pred n) (q .to) (inside q m .1),
+            ap (λ (k : ℕ). getD (rounds qs first k) (q .to) 0) one,
+            ap (λ (l : List ℕ). getD l (q .to) 0) (z .is),
+          ))
+
+      above : (j : ℕ) → j < n → getD first j 0 ≤ getD ts j 0
+      above j h = omega (arith, after-mono qs first 0 n j (omega arith), ap (λ (l : List ℕ). getD l j 0) (z .is))
+
+      below : (j : ℕ) → j < n → getD ts j 0 ≤ getD last j 0
+      below j h = leb-true _ _ (all-each (λ j. leb (getD ts j 0) (getD last j 0)) (count 0 (length ts)) (z .in-time) (some-count 0 (length ts) j (omega arith) (omega (arith, least-length ts e))))
 
   -- no starts that keep them have a smaller start
-  pub least-below : (ts : List ℕ) → leastStarts n qs ≡ some ts → (us : List ℕ) → ((q : Delay) → List·Memᴰ q qs → Keeps us q) → (j : ℕ) → start ts j ≤ start us j
+  pub least-below : (ts : List ℕ) → leastStarts first last qs ≡ some ts → (us : List ℕ) → Solution first last qs us → (j : ℕ) → start ts j ≤ start us j
   unfolding after start
-  least-below ts e us k j =
+  least-below ts e us s j =
       omega (
         arith,
-        after-below qs (firstStarts n) (start us) (keeps-solves n qs us k) n j,
+        after-below qs first (start us) (solution-solves us s) n j,
         ap (λ (l : List ℕ). getD l j 0) (least-round ts e .0),
       )
 
-  -- they exist where some starts keep the inequalities
-  pub least-found : Inside n qs → (us : List ℕ) → ((q : Delay) → List·Memᴰ q qs → Keeps us q) → leastStarts n qs ≡ some (rounds qs (firstStarts n) n)
-  unfolding leastStarts if_then_else_ after Inside rounds
-  least-found inside us k = go n refl
+  -- they exist where some starts keep the inequalities and the ends
+  pub least-found : Inside n qs → (us : List ℕ) → Solution first last qs us → leastStarts first last qs ≡ some (rounds qs first n)
+  unfolding leastStarts if_then_else_ after Inside rounds inTime start
+  least-found inside us s = rw (settled n refl, in-time)
     where
-      settled : (m : ℕ) → suc m ≡ n → rounds qs (firstStarts n) (suc m) ≡ rounds qs (firstStarts n) m
-      settled m g =
-          ext-getD 0 (rounds qs (firstStarts n) (suc m)) (rounds qs (firstStarts n) m)
-          (rounds-length qs (firstStarts n) (suc m) ∙ sym (rounds-length qs (firstStarts n) m))
+      unchanged : (m : ℕ) → suc m ≡ n → rounds qs first (suc m) ≡ rounds qs first m
+      unchanged m g =
+          ext-getD 0 (rounds qs first (suc m)) (rounds qs first m) (rounds-length qs first (suc m) ∙ sym (rounds-length qs first m))
           (λ j h. omega (
             arith,
-            settles qs (firstStarts n) (start us) (keeps-solves n qs us k) (λ q h. omega (arith, inside q h .0, first-length n)) m j (omega (arith, first-length n)),
-            after-rises qs (firstStarts n) m j,
+            settles qs first (start us) (solution-solves us s) (λ q h. inside q h .0) m j (omega arith),
+            after-rises qs first m j,
           ))
 
-      go : (m : ℕ) → m ≡ n → (if same (rounds qs (firstStarts n) m) (rounds qs (firstStarts n) (pred m)) then some (rounds qs (firstStarts n) m) else none) ≡ some (rounds qs (firstStarts n) m)
-      go zero g = rw (same-refl (firstStarts n))
-      go (suc m) g = rw (settled m g, same-refl (rounds qs (firstStarts n) m))
+      settled : (m : ℕ) → m ≡ n → same (rounds qs first m) (rounds qs first (pred m)) ≡ true
+      settled zero g = same-refl first
+      settled (suc m) g = rw (unchanged m g) (same-refl (rounds qs first m))
+
+      in-time : inTime last (rounds qs first n) ≡ true
+      in-time =
+          each-all (λ j. leb (getD (rounds qs first n) j 0) (getD last j 0)) (count 0 (length (rounds qs first n)))
+          (λ j m.
+          let h : j < n = omega (arith, count-some 0 (length (rounds qs first n)) j m .1, rounds-length qs first n) in
+          le-leb (getD (rounds qs first n) j 0) (getD last j 0) (omega (arith, after-below qs first (start us) (solution-solves us s) n j, s .below j h)))
+
+-- ---- those of a batch's jobs
+
+module _ (b : Batch) where
+  pub ends-length : length (earliestStarts b) ≡ b .n
+  unfolding earliestStarts
+  ends-length = listed-length (earliest b) (b .n)
+
+  pub earliest-at : (j : ℕ) → j < b .n → getD (earliestStarts b) j 0 ≡ earliest b j
+  unfolding earliestStarts
+  earliest-at = listed-at (earliest b) 0 (b .n)
+
+  pub latest-at : (j : ℕ) → j < b .n → getD (latestStarts b) j 0 ≡ latest b j
+  unfolding latestStarts
+  latest-at = listed-at (latest b) 0 (b .n)
+
+  -- starts that keep inequalities and the batch's ends
+  abbrev pub Solved : List Delay → List ℕ → Type 0
+  Solved = Solution (earliestStarts b) (latestStarts b)
+
+  pub solved : (qs : List Delay) (us : List ℕ) → ((q : Delay) → List·Memᴰ q qs → Keeps us q) → KeepsEnds b us → Solved qs us
+  unfolding KeepsEnds
+  solved qs us k e =
+      record {
+        keeps = k;
+        above = λ j h. let g : j < b .n = omega (arith, ends-length) in omega (arith, earliest-at j g, e j g .0);
+        below = λ j h. let g : j < b .n = omega (arith, ends-length) in omega (arith, latest-at j g, e j g .1);
+      }
+
+  pub solved-ends : (qs : List Delay) (us : List ℕ) → Solved qs us → KeepsEnds b us
+  unfolding KeepsEnds
+  solved-ends qs us s j h =
+      let g : j < length (earliestStarts b) = omega (arith, ends-length) in
+      (omega (arith, earliest-at j h, s .above j g), omega (arith, latest-at j h, s .below j g))
+
+  pub inside-ends : (qs : List Delay) → Inside (b .n) qs → Inside (length (earliestStarts b)) qs
+  unfolding Inside
+  inside-ends qs inside q m = let e = inside q m in (omega (arith, e .0, ends-length), omega (arith, e .1, ends-length))

@@ -1,16 +1,17 @@
--- Batch file: the batch that the record holds, read as 01 speaks of it. n jobs, job i's p masks, m delays; places past them are
--- never read.
+-- Batch file: the batch that the record holds, read as 01 and 02 speak of it. Edition, n jobs, job i's p masks and its ends, m delays; places
+-- past them are never read.
 use Prim.Native.Nat.{ℕ, _/_, _%_, _^_}
-use mathlib.Core.Bool.{Bool}
+use mathlib.Core.Bool.{Bool, not}
 use mathlib.Core.List.{List, map}
 use lib.ListN.{getD, replicate}
 use lib.IntN.{pos}
 use lib.Dec.{eqb}
 use Rattle.model.specs.declared.Delay.{Delay}
 use Rattle.model.specs.declared.Job.{Job}
+use Rattle.model.specs.declared.Window.{Window}
 use Rattle.model.specs.declared.Batch.{Batch}
 use Rattle.model.specs.Common.{count}
-use Rattle.model.specs.Limits.{mostTicks}
+use Rattle.model.specs.Limits.{mostTicks, noLatest}
 
 -- ---- unused places
 
@@ -19,6 +20,9 @@ blankJob = record { ticks = 0; masks = replicate mostTicks 0 }
 
 unfoldable pub blankDelay : Delay
 blankDelay = record { from = 0; to = 0; weight = pos 0 }
+
+unfoldable pub blankWindow : Window
+blankWindow = record { lined = 0; earliest = 0; latest = noLatest }
 
 -- ---- jobs: a job is a reservation table
 
@@ -44,3 +48,25 @@ delayOf b k = getD (b .delays) k blankDelay
 
 unfoldable pub delaysOf : Batch → List Delay
 delaysOf b = map (delayOf b) (count 0 (b .m))
+
+-- ---- ends: each job's earliest and latest start, 0 and 65,535 without a line (02, Q-4)
+
+unfoldable pub windowOf : Batch → ℕ → Window
+windowOf b i = getD (b .windows) i blankWindow
+
+-- job i has a line
+unfoldable pub lined : Batch → ℕ → Bool
+lined b i = not (eqb (windowOf b i .lined) 0)
+
+unfoldable pub earliest : Batch → ℕ → ℕ
+earliest b i = windowOf b i .earliest
+
+unfoldable pub latest : Batch → ℕ → ℕ
+latest b i = windowOf b i .latest
+
+-- those of the n jobs
+unfoldable pub earliestStarts : Batch → List ℕ
+earliestStarts b = map (earliest b) (count 0 (b .n))
+
+unfoldable pub latestStarts : Batch → List ℕ
+latestStarts b = map (latest b) (count 0 (b .n))

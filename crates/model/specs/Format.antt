@@ -1,8 +1,8 @@
--- Batch file: the format as 01 describes it, with no word of how a file is read. A file keeps the format when it is the text of a
+-- Batch file: the format as 01 and 02 describe it, with no word of how a file is read. A file keeps the format when it is the text of a
 -- batch within the limits.
 use Prim.Native.Nat.{ℕ, _-_, _≤_, _<_}
 use mathlib.Core.Path.{_≡_}
-use mathlib.Core.Logic.{_≢_}
+use mathlib.Core.Logic.{_⊎_, _≢_}
 use mathlib.Core.List.{List, [], _∷_, _++_, List·Memᴰ, map}
 use lib.ListN.{length, getD}
 use lib.IntN.{ℤ, pos, negsuc}
@@ -13,9 +13,10 @@ use Rattle.model.specs.declared.Batch.{Batch}
 use Rattle.model.specs.Common.{count, joined, pad}
 use Rattle.model.specs.Limits.{mostJobs, mostDelays, mostTicks, mostWeight, mostClashes}
 use Rattle.model.specs.Batch.{blankJob, blankDelay, jobOf, ticks, mask, delaysOf}
-use Rattle.model.specs.Plan.{KeepsDelays}
+use Rattle.model.specs.Plan.{KeepsDelays, KeepsEnds}
 use Rattle.model.specs.Clash.{clashes}
 use Rattle.model.specs.Line.{line, two}
+use Rattle.model.specs.Window.{WindowLine, windowText, windowLines, windowsOf, WithinWindows}
 
 -- ---- the text of a batch
 
@@ -24,8 +25,8 @@ unfoldable pub unsigned : ℤ → ℕ
 unsigned (pos k) = k
 unsigned (negsuc k) = 65535 - k
 
-unfoldable pub headerLine : ℕ → ℕ → List ℕ
-headerLine n m = line (0xA0 ∷ 0x01 ∷ n ∷ m ∷ [])
+unfoldable pub headerLine : ℕ → ℕ → ℕ → List ℕ
+headerLine edition n m = line (0xA0 ∷ edition ∷ n ∷ m ∷ [])
 
 -- the p masks of a job
 unfoldable pub masksOf : Job → List ℕ
@@ -40,36 +41,59 @@ delayLine q = line (0xA2 ∷ q .from ∷ q .to ∷ two (unsigned (q .weight)))
 unfoldable pub jobsOf : Batch → List Job
 jobsOf b = map (jobOf b) (count 0 (b .n))
 
+-- the further lines (02, Q-4): a list for each kind, kinds rising
+pub record Further : Type 0 where
+  pub windows : List WindowLine
+
+unfoldable pub furtherOf : Batch → Further
+furtherOf b = record { windows = windowLines b }
+
+unfoldable pub furtherText : Further → List ℕ
+furtherText f = joined windowText (f .windows)
+
 unfoldable pub batchFile : Batch → List ℕ
-batchFile b = headerLine (b .n) (b .m) ++ (joined jobLine (jobsOf b) ++ joined delayLine (delaysOf b))
+batchFile b =
+    headerLine (b .edition) (b .n) (b .m) ++ (joined jobLine (jobsOf b) ++ (joined delayLine (delaysOf b) ++ furtherText (furtherOf b)))
 
 -- ---- the limits
 
--- the batch keeps 01's limits, and a mask is two bytes
+-- no further lines
+unfoldable pub noFurther : Further
+noFurther = record { windows = [] }
+
+-- edition 01, which has no further lines, or 02
+unfoldable pub Edition : Batch → Type 0
+Edition b = ((b .edition ≡ 1) × (furtherOf b ≡ noFurther)) ⊎ (b .edition ≡ 2)
+
+-- the batch keeps 01's limits and those of its further lines, and a mask is two bytes
 pub record Within (b : Batch) : Type 0 where
+  pub edition-known : Edition b
   pub jobs : (1 ≤ b .n) × (b .n ≤ mostJobs)
   pub delays : b .m ≤ mostDelays
   pub ticks-each : (i : ℕ) → i < b .n → (1 ≤ ticks b i) × (ticks b i ≤ mostTicks)
   pub masks-each : (i a : ℕ) → i < b .n → a < ticks b i → mask b i a < 65536
   pub ends-each : (q : Delay) → List·Memᴰ q (delaysOf b) → (q .from < b .n) × (q .to < b .n) × (q .from ≢ q .to)
   pub weight-each : (q : Delay) → List·Memᴰ q (delaysOf b) → (negsuc (mostWeight - 1) ≤ℤ q .weight) × (q .weight ≤ℤ pos mostWeight)
+  pub windows : WithinWindows b
 
 -- ---- the batch that a file yields has its unused places blank
 
 unfoldable pub padJob : Job → Job
 padJob job = record { ticks = job .ticks; masks = pad mostTicks 0 (masksOf job) }
 
-unfoldable pub batchOf : List Job → List Delay → Batch
-batchOf jobs delays =
+unfoldable pub batchOf : ℕ → List Job → List Delay → Further → Batch
+batchOf edition jobs delays further =
     record {
       n = length jobs;
       m = length delays;
+      edition = edition;
       jobs = pad mostJobs blankJob jobs;
       delays = pad mostDelays blankDelay delays;
+      windows = windowsOf (further .windows);
     }
 
 unfoldable pub blanked : Batch → Batch
-blanked b = batchOf (map padJob (jobsOf b)) (delaysOf b)
+blanked b = batchOf (b .edition) (map padJob (jobsOf b)) (delaysOf b) (furtherOf b)
 
 -- ---- what a file must be to be opened, and the batch that it then yields
 
@@ -80,4 +104,4 @@ pub record BatchFile (file : List ℕ) (b : Batch) : Type 0 where
   pub few : length (clashes b) ≤ mostClashes
   pub starts : List ℕ
   pub starts-each : length starts ≡ b .n
-  pub starts-keep : KeepsDelays b starts
+  pub starts-keep : KeepsDelays b starts × KeepsEnds b starts

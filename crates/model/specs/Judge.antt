@@ -13,14 +13,14 @@ use Rattle.model.specs.declared.Batch.{Batch}
 use Rattle.model.specs.declared.Delay.{Delay}
 use Rattle.model.specs.declared.Judgement.{Judgement}
 use Rattle.model.specs.declared.Judgement.the-variants.{Passed, Refused}
-use Rattle.model.specs.Common.{count, all, keep, joined, isEmpty, isSome, Outcome, refuse, accept, _>>=_, require}
-use Rattle.model.specs.Batch.{delaysOf}
+use Rattle.model.specs.Common.{between, count, all, keep, joined, isEmpty, isSome, Outcome, refuse, accept, _>>=_, require}
+use Rattle.model.specs.Batch.{delaysOf, earliest, latest}
 use Rattle.model.specs.Plan.{start, Valid, latency}
 use Rattle.model.specs.Clash.{clashes}
 use Rattle.model.specs.Starts.{same}
 use Rattle.model.specs.Search.{firstMet}
-use Rattle.model.specs.Line.{line, two, four}
-use Rattle.model.specs.Open.{at, wide, frameIs, readOne, readAll, openFile}
+use Rattle.model.specs.Line.{at, wide, frameIs, line, two, four}
+use Rattle.model.specs.Open.{readOne, readAll, openFile}
 use Rattle.model.specs.Text.{planLines}
 
 -- ---- a right plan text for a batch: that of a valid plan, with its latency and some total. These fit their bytes, and so do the starts, none of which passes
@@ -110,9 +110,13 @@ jobsRight b c = eqb (c .n) (b .n) && same (jobsIn c) (count 0 (b .n))
 unfoldable pub keeps : List ℕ → Delay → Bool
 keeps ts q = leZ (q .weight) (subℕ (start ts (q .to)) (start ts (q .from)))
 
--- each delay is kept, and no clash is met; model/proofs/JudgeLaws: plan-iff says that this is validity by ticks and stations
+-- no job starts before its earliest start or after its latest (02, Q-4)
+unfoldable pub keepsEnds : Batch → List ℕ → Bool
+keepsEnds b ts = all (λ i. between (earliest b i) (start ts i) (latest b i)) (count 0 (b .n))
+
+-- each delay and each end is kept, and no clash is met; model/proofs/JudgeLaws: plan-iff says that this is validity by ticks and stations
 unfoldable pub valid : Batch → List ℕ → Bool
-valid b ts = all (keeps ts) (delaysOf b) && not (isSome (firstMet (clashes b) ts 0))
+valid b ts = all (keeps ts) (delaysOf b) && keepsEnds b ts && not (isSome (firstMet (clashes b) ts 0))
 
 unfoldable pub planRight : Batch → Claim → Bool
 planRight b c = valid b (startsIn c) && eqb (latency b (startsIn c)) (c .latency)

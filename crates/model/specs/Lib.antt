@@ -9,6 +9,7 @@ pub mod Starts
 pub mod Search
 pub mod Padded
 pub mod Line
+pub mod Window
 pub mod Format
 pub mod Open
 pub mod Sound

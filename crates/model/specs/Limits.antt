@@ -21,12 +21,20 @@ mostWeight = 1000
 abbrev pub mostClashes : ℕ
 mostClashes = 1024
 
--- no start passes 23,000, and no latency 23,016
+-- an earliest start is 0 to 20,000 (02, Q-4)
+abbrev pub mostEarliest : ℕ
+mostEarliest = 20000
+
+-- the latest start of a job without a line (02, Q-4), the largest number of two bytes
+abbrev pub noLatest : ℕ
+noLatest = 65535
+
+-- no start passes 43,000, and no latency 43,016 (02, Q-4)
 abbrev pub mostStart : ℕ
-mostStart = 23000
+mostStart = 43000
 
 abbrev pub mostLatency : ℕ
-mostLatency = 23016
+mostLatency = 43016
 
 -- of one run, and of a whole search
 abbrev pub mostBudget : ℕ

@@ -1,9 +1,9 @@
--- Lines: upper-case hexadecimal, two digits a byte, closed by byte 0A. Reading the first line of a file, and writing one.
-use Prim.Native.Nat.{ℕ, _+_, _-_, _*_, _/_, _%_}
-use mathlib.Core.Bool.{not}
+-- Lines: upper-case hexadecimal, two digits a byte, closed by byte 0A. Reading the first line of a file, what its bytes say, and writing one.
+use Prim.Native.Nat.{ℕ, suc, _+_, _-_, _*_, _/_, _%_}
+use mathlib.Core.Bool.{Bool, _&&_, not}
 use mathlib.Core.List.{List, [], _∷_, _++_}
 use mathlib.Core.Option.{Option, none, some}
-use lib.ListN.{length, drop}
+use lib.ListN.{length, getD, drop}
 use lib.Dec.{ltb, eqb}
 use Rattle.model.specs.Common.{if_then_else_, between, upTo, joined}
 
@@ -38,6 +38,19 @@ frameBytes (some (b ∷ bs)) (nl ∷ rest) = some (b ∷ bs, rest)
 -- the bytes of the first line, and the rest of the file; nothing where it has no 0A, no digits, an odd count, or another byte
 unfoldable pub readLine : List ℕ → Option (List ℕ × List ℕ)
 readLine file = frameBytes (bytesOf (lineOf file)) (drop (length (lineOf file)) file)
+
+-- ---- a frame: the bytes of a line
+
+-- byte k of a frame, and the two-byte number there
+unfoldable pub at : List ℕ → ℕ → ℕ
+at frame k = getD frame k 0
+
+unfoldable pub wide : List ℕ → ℕ → ℕ
+wide frame k = at frame k * 256 + at frame (suc k)
+
+-- a frame of this kind and length
+unfoldable pub frameIs : ℕ → ℕ → List ℕ → Bool
+frameIs kind size frame = eqb (at frame 0) kind && eqb (length frame) size
 
 -- ---- writing
 

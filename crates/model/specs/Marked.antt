@@ -118,7 +118,7 @@ rows =
     -- the refusals' numbers and order: 1 before 2, 2 before 3, 3 before 4, 2 before 4, 5 before 6, 8 before 10
     ∷ refusedWith 1 (fileOf "A00100g")
     ∷ refusedWith 2 (fileOf "A00201")
-    ∷ refusedWith 3 (fileOf "A0020000")
+    ∷ refusedWith 3 (fileOf "A0030100")
     ∷ refusedWith 2 (fileOf "A0010100 A1110001")
     ∷ refusedWith 4 (fileOf "A0010100 A100")
     ∷ refusedWith 5 (fileOf "A0010201 A1010001 A1010001 A2000003E9")

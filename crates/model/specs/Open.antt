@@ -1,8 +1,8 @@
--- Opening a batch file: line by line, in a line 7 first and then 1 to 6 in turn; then 8, 9, 10.
+-- Opening a batch file: line by line, in a line 7 first and then 1 to 6 in turn; then 8, or the further lines of edition 02; then 9, 10.
 use Prim.Native.Nat.{ℕ, zero, suc, _+_, _-_, _*_}
-use mathlib.Core.Bool.{Bool, _&&_, not}
-use mathlib.Core.List.{List, [], _∷_}
-use lib.ListN.{length, getD, drop}
+use mathlib.Core.Bool.{Bool, true, false, _&&_, _||_, not}
+use mathlib.Core.List.{List, [], _∷_, _++_}
+use lib.ListN.{length, drop}
 use lib.IntN.{ℤ, pos, negsuc}
 use lib.Signed.{leZ}
 use lib.Dec.{leb, ltb, eqb}
@@ -14,14 +14,18 @@ use Rattle.model.specs.declared.Opening.the-variants.{Accepted, Refused}
 use Rattle.model.specs.declared.Opened.{Opened}
 use Rattle.model.specs.Common.{if_then_else_, between, pad, isEmpty, isSome, Outcome, refuse, accept, _>>=_, require, given}
 use Rattle.model.specs.Limits.{mostJobs, mostDelays, mostTicks, mostWeight, mostClashes}
-use Rattle.model.specs.Batch.{delaysOf}
+use Rattle.model.specs.Batch.{delaysOf, earliestStarts, latestStarts}
 use Rattle.model.specs.Clash.{clashes}
 use Rattle.model.specs.Starts.{leastStarts}
 use Rattle.model.specs.Search.{freshSearch}
-use Rattle.model.specs.Line.{readLine}
-use Rattle.model.specs.Format.{batchOf}
+use Rattle.model.specs.Line.{readLine, at, wide, frameIs}
+use Rattle.model.specs.Window.{window}
+use Rattle.model.specs.Format.{Further, noFurther, batchOf}
 
--- ---- the limits: n, m and p (4), a delay's jobs (5), its weight (6), D (9), delays that can be met (10)
+-- ---- the limits: the edition (3), n, m and p (4), a delay's jobs (5), its weight (6), D (9), delays and ends that can be met together (10)
+
+unfoldable pub editionOk : ℕ → Bool
+editionOk e = eqb e 1 || eqb e 2
 
 unfoldable pub countsOk : ℕ → ℕ → Bool
 countsOk n m = between 1 n mostJobs && leb m mostDelays
@@ -39,32 +43,21 @@ unfoldable pub fewClashes : Batch → Bool
 fewClashes b = leb (length (clashes b)) mostClashes
 
 unfoldable pub delaysMet : Batch → Bool
-delaysMet b = isSome (leastStarts (b .n) (delaysOf b))
+delaysMet b = isSome (leastStarts (earliestStarts b) (latestStarts b) (delaysOf b))
 
 -- ---- the frames
-
--- byte k of a frame, and the two-byte number there
-unfoldable pub at : List ℕ → ℕ → ℕ
-at frame k = getD frame k 0
-
-unfoldable pub wide : List ℕ → ℕ → ℕ
-wide frame k = at frame k * 256 + at frame (suc k)
 
 -- two bytes as two's complement: from 32,768 on, v − 65,536
 unfoldable pub signed : ℕ → ℤ
 signed v = if ltb v 32768 then pos v else negsuc (65535 - v)
 
--- a frame of this kind and length
-unfoldable pub frameIs : ℕ → ℕ → List ℕ → Bool
-frameIs kind size frame = eqb (at frame 0) kind && eqb (length frame) size
-
--- the header: n and m
-unfoldable pub header : List ℕ → Outcome (ℕ × ℕ)
+-- the header: edition, n and m
+unfoldable pub header : List ℕ → Outcome (ℕ × ℕ × ℕ)
 header f = do
   _ ← require 2 (frameIs 0xA0 4 f)
-  _ ← require 3 (eqb (at f 1) 1)
+  _ ← require 3 (editionOk (at f 1))
   _ ← require 4 (countsOk (at f 2) (at f 3))
-  accept (at f 2, at f 3)
+  accept (at f 1, at f 2, at f 3)
 
 -- two-byte numbers, one after the other
 unfoldable pub wides : List ℕ → List ℕ
@@ -114,16 +107,45 @@ readAll frame (suc k) file = do
   (xs, end) ← readAll frame k rest
   accept (x ∷ xs, end)
 
+-- ---- further lines (02, Q-4)
+
+-- as many lines as are of this kind, after those before them: 1 if what is left is no line. A line is never empty, so that k, the length of the file,
+-- suffices
+unfoldable pub readKind : {A : Type 0} → ℕ → (List A → List ℕ → Outcome A) → ℕ → List A → List ℕ → Outcome (List A × List ℕ)
+readKind kind frame zero before file = accept (before, file)
+readKind kind frame (suc k) before [] = accept (before, [])
+readKind kind frame (suc k) before (c ∷ cs) = do
+  (f, rest) ← given 1 (readLine (c ∷ cs))
+  elim (eqb (at f 0) kind) [ true ↦ (frame before f >>= λ x. readKind kind frame k (before ++ (x ∷ [])) rest) | false ↦ accept (before, c ∷ cs) ]
+
+-- the file ends after the last kind: what is left is no line (1), or one of an unknown kind or of one that falls (2)
+unfoldable pub nothingLeft : List ℕ → Outcome (Unit {0})
+nothingLeft [] = accept tt
+nothingLeft (c ∷ cs) = do
+  _ ← given 1 (readLine (c ∷ cs))
+  refuse 2
+
+-- kind after kind
+unfoldable pub readFurther : ℕ → List ℕ → Outcome Further
+readFurther n file = do
+  (windows, end) ← readKind 0xA3 (window n) (length file) [] file
+  _ ← nothingLeft end
+  accept (record { windows = windows })
+
+-- edition 01 has none, and nothing after its delays
+unfoldable pub readRest : ℕ → ℕ → List ℕ → Outcome Further
+readRest edition n end =
+    if eqb edition 1 then (require 8 (isEmpty end) >>= λ u. accept noFurther) else readFurther n end
+
 -- ---- a whole file
 
--- its frames, and nothing after them
 unfoldable pub readFile : List ℕ → Outcome Batch
 readFile file = do
-  (counts, afterHeader) ← readOne header file
-  (jobs, afterJobs) ← readAll job (counts .0) afterHeader
-  (delays, end) ← readAll (delay (counts .0)) (counts .1) afterJobs
-  _ ← require 8 (isEmpty end)
-  accept (batchOf jobs delays)
+  ((edition, n, m), afterHeader) ← readOne header file
+  (jobs, afterJobs) ← readAll job n afterHeader
+  (delays, end) ← readAll (delay n) m afterJobs
+  further ← readRest edition n end
+  accept (batchOf edition jobs delays further)
 
 unfoldable pub openFile : List ℕ → Outcome Batch
 openFile file = do
@@ -135,7 +157,7 @@ openFile file = do
 -- ---- the call: the fresh search of the batch; a refusal yields no record, so the one blank record stands there
 
 unfoldable pub blankSearch : Search
-blankSearch = freshSearch (batchOf [] [])
+blankSearch = freshSearch (batchOf 1 [] [] noFurther)
 
 unfoldable pub openedAs : Outcome Batch → Opened
 openedAs (accept b) = record { answer = Accepted; search = freshSearch b }

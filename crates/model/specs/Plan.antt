@@ -11,7 +11,7 @@ use Rattle.model.specs.declared.Job.{Job}
 use Rattle.model.specs.declared.Batch.{Batch}
 use Rattle.model.specs.Common.{if_then_else_, count}
 use Rattle.model.specs.Limits.{stations}
-use Rattle.model.specs.Batch.{jobOf, ticks, mask, bit, delaysOf}
+use Rattle.model.specs.Batch.{jobOf, ticks, mask, bit, delaysOf, earliest, latest}
 
 -- t_i of a plan
 unfoldable pub start : List ℕ → ℕ → ℕ
@@ -33,10 +33,15 @@ KeepsDelays b ts = (q : Delay) → List·Memᴰ q (delaysOf b) → Keeps ts q
 unfoldable pub KeepsStations : Batch → List ℕ → Type 0
 KeepsStations b ts = (i j s x : ℕ) → i < j → j < b .n → s < stations → Holds b ts i s x → Holds b ts j s x → ⊥
 
--- a plan gives each job a start, and is valid when it keeps the delays and the stations
+-- no job starts before its earliest start or after its latest (02, Q-4)
+unfoldable pub KeepsEnds : Batch → List ℕ → Type 0
+KeepsEnds b ts = (i : ℕ) → i < b .n → (earliest b i ≤ start ts i) × (start ts i ≤ latest b i)
+
+-- a plan gives each job a start, and is valid when it keeps the delays, the ends and the stations
 pub record Valid (b : Batch) (ts : List ℕ) : Type 0 where
   pub starts : length ts ≡ b .n
   pub delays : KeepsDelays b ts
+  pub ends : KeepsEnds b ts
   pub stations : KeepsStations b ts
 
 -- of a job's first p ticks the number of the last non-empty one, plus 1; 0 where they hold no station

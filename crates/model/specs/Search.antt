@@ -15,7 +15,7 @@ use Rattle.model.specs.declared.Best.the-variants.{Nothing, Latency}
 use Rattle.model.specs.declared.Search.{Search}
 use Rattle.model.specs.Common.{if_then_else_, upTo, pad, eqZ}
 use Rattle.model.specs.Limits.{mostJobs, mostClashes}
-use Rattle.model.specs.Batch.{delaysOf}
+use Rattle.model.specs.Batch.{delaysOf, earliestStarts, latestStarts}
 use Rattle.model.specs.Plan.{start, latency}
 use Rattle.model.specs.Clash.{Clash, clashes}
 use Rattle.model.specs.Starts.{leastStarts}
@@ -49,7 +49,7 @@ unfoldable pub inequalities : List Clash → Batch → List Turn → List Delay
 inequalities cs b ts = delaysOf b ++ map (turned cs) ts
 
 unfoldable pub startsAt : List Clash → Batch → List Turn → Option (List ℕ)
-startsAt cs b ts = leastStarts (b .n) (inequalities cs b ts)
+startsAt cs b ts = leastStarts (earliestStarts b) (latestStarts b) (inequalities cs b ts)
 
 -- t_j − t_i = d
 unfoldable pub met : List ℕ → Clash → Bool

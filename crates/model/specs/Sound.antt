@@ -15,13 +15,22 @@ use Rattle.model.specs.Batch.{ticks, delaysOf}
 use Rattle.model.specs.Plan.{start}
 use Rattle.model.specs.Clash.{clashes}
 use Rattle.model.specs.Search.{turnsOf, isTurn}
+use Rattle.model.specs.Window.{windowLines, windowOk}
 use Rattle.model.specs.Open.{countsOk, ticksOk, jobsOk, weightOk, fewClashes, delaysMet}
+
+-- its edition is 01, which has no further lines, or 02
+unfoldable pub soundEdition : Batch → Bool
+soundEdition b = eqb (b .edition) 2 || (eqb (b .edition) 1 && isEmpty (windowLines b))
+
+-- its further lines, kind by kind, keep their limits, and what has no line is as it is without one
+unfoldable pub soundFurther : Batch → Bool
+soundFurther b = all (windowOk b) (count 0 (b .n))
 
 -- its batch passes 4, 5, 6, 9 and 10
 unfoldable pub soundBatch : Batch → Bool
 soundBatch b =
     countsOk (b .n) (b .m) && all (λ i. ticksOk (ticks b i)) (count 0 (b .n))
-    && all (jobsOk (b .n)) (delaysOf b) && all weightOk (delaysOf b) && fewClashes b && delaysMet b
+    && all (jobsOk (b .n)) (delaysOf b) && all weightOk (delaysOf b) && soundEdition b && soundFurther b && fewClashes b && delaysMet b
 
 unfoldable pub distinct : List ℕ → Bool
 distinct [] = true
@@ -38,7 +47,7 @@ soundPath s =
     soundTurns (length (clashes (s .batch))) turns && all (λ t. not (isTurn t)) (drop (length turns) (s .path))
     && (not (s .ended) || isEmpty turns)
 
--- best has starts up to 23,000 and latency up to 23,016
+-- best has starts up to 43,000 and latency up to 43,016
 unfoldable pub soundBest : ℕ → Best → List ℕ → Bool
 soundBest n Nothing starts = true
 soundBest n (Latency l) starts = leb l mostLatency && all (λ i. leb (start starts i) mostStart) (count 0 n)

@@ -1,15 +1,15 @@
--- Least starts (the earliest start times, longest-path potentials) of a list of inequalities t_j − t_i ≥ w over n jobs. An inequality
--- is written as a delay from i to j of weight w.
+-- Least starts (the earliest start times, longest-path potentials) of a list of inequalities t_j − t_i ≥ w over n jobs, each with an earliest and
+-- a latest start. An inequality is written as a delay from i to j of weight w.
 use Prim.Native.Nat.{ℕ, zero, suc, _+_, _-_, max, pred}
 use mathlib.Core.Bool.{Bool, true, false, _&&_}
 use mathlib.Core.List.{List, [], _∷_, map}
 use mathlib.Core.Option.{Option, none, some}
-use lib.ListN.{getD, replicate, length}
+use lib.ListN.{getD, length}
 use lib.IntN.{ℤ, pos, negsuc}
 use lib.Signed.{leZ}
-use lib.Dec.{eqb}
+use lib.Dec.{leb, eqb}
 use Rattle.model.specs.declared.Delay.{Delay}
-use Rattle.model.specs.Common.{count, if_then_else_}
+use Rattle.model.specs.Common.{count, all, if_then_else_}
 use Rattle.model.specs.Limits.{mostJobs}
 
 -- t + w, or 0 where that is below 0: it is only compared with a start, and no start is below 0
@@ -34,15 +34,17 @@ same [] (y ∷ ys) = false
 same (x ∷ xs) [] = false
 same (x ∷ xs) (y ∷ ys) = eqb x y && same xs ys
 
--- after 0 rounds all starts are 0
-unfoldable pub firstStarts : ℕ → List ℕ
-firstStarts n = replicate n 0
+-- no start passes its latest
+unfoldable pub inTime : List ℕ → List ℕ → Bool
+inTime latest ts = all (λ j. leb (getD ts j 0) (getD latest j 0)) (count 0 (length ts))
 
--- if round n still changes something, there are none; otherwise these are the least starts
-unfoldable pub leastStarts : ℕ → List Delay → Option (List ℕ)
-leastStarts n qs =
-    let last = rounds qs (firstStarts n) n in
-    if same last (rounds qs (firstStarts n) (pred n)) then some last else none
+-- after 0 rounds each start is its earliest. If round n still changes something or a start passes its latest, there are none; otherwise these
+-- are the least starts
+unfoldable pub leastStarts : List ℕ → List ℕ → List Delay → Option (List ℕ)
+leastStarts earliest latest qs =
+    let n = length earliest in
+    let last = rounds qs earliest n in
+    if same last (rounds qs earliest (pred n)) && inTime latest last then some last else none
 
 -- ---- the working table
 

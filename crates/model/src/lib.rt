@@ -15,17 +15,27 @@ pub struct Delay {
 // A job's reservation table: bit s of masks[a] is set where the job holds station s in its tick a.
 #[repr(C)]
 pub struct Job {
-    pub ticks: u8,
+    pub ticks: u16,
     pub masks: [u16; 16],
 }
 
-// The first n jobs and the first m delays count; the other places are never looked at.
+// A job's earliest and latest start. `lined` is 0 where the file has no line for them, and anything else where it has one.
+#[repr(C)]
+pub struct Window {
+    pub lined: u16,
+    pub earliest: u16,
+    pub latest: u16,
+}
+
+// The first n jobs with their windows and the first m delays count; the other places are never looked at.
 #[repr(C)]
 pub struct Batch {
     pub n: u8,
     pub m: u8,
+    pub edition: u16,
     pub jobs: [Job; 24],
     pub delays: [Delay; 128],
+    pub windows: [Window; 24],
 }
 
 // A branching decision: the clash's number in the batch's list, and the side that is taken.
@@ -103,6 +113,13 @@ pub const NO_DELAY: Delay = Delay {
     from: 0,
     to: 0,
     weight: 0,
+};
+
+// The ends of a job without a line.
+pub const NO_WINDOW: Window = Window {
+    lined: 0,
+    earliest: 0,
+    latest: 65535,
 };
 
 // The search of a batch before its first node.
