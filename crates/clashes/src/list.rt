@@ -5,6 +5,7 @@ use crate::tables::tables_meet;
 use model::Batch;
 use model::Job;
 use model::wide;
+use model::wide16;
 ghost use mathlib.Core.Path.{_≡_};
 ghost use Prim.Native.Nat.{_*_, _≤_, _<_};
 ghost use Rattle.clashes.specs.List.{listing, put, pairCodes, listOf, Grown, Tabled};
@@ -26,8 +27,8 @@ fn add_pair(codes: &mut [u16; 1024], count: usize, first: Job, second: Job, base
     requires { ⌜ (count ≤ 20000) × (base ≤ 24576) ⌝ }
     ensures { λ r. ⌜ Grown (listing count (now (codes .entry))) (listing r (now (codes .exit))) (pairCodes first second base) 31 ⌝ }
 {
-    let p = wide(first.ticks);
-    let q = wide(second.ticks);
+    let p = wide16(first.ticks);
+    let q = wide16(second.ticks);
     let masks = first.masks;
     let others = second.masks;
     let end = 15 + p;

@@ -32,12 +32,12 @@ use Rattle.clashes.specs.List.{listOf}
 use Rattle.clashes.specs.First.{Known, Unmet, metOf, firstCode}
 use Rattle.clashes.proofs.FirstLaws.{unmet-none, first-agree}
 use Rattle.clashes.proofs.ListedLaws.{list-fits, list-known, first-listed}
-use Rattle.starts.specs.declared.delays.Delays.{Delays}
-use Rattle.starts.specs.Code.{Limited, coded}
-use Rattle.starts.specs.Delays.{delaysRead}
+use Rattle.weights.specs.declared.delays.Delays.{Delays}
+use Rattle.weights.specs.Code.{Limited, coded}
+use Rattle.weights.specs.Delays.{delaysRead}
 use Rattle.starts.specs.Least.{Holds}
-use Rattle.starts.proofs.CodeLaws.{plus-coded}
-use Rattle.starts.proofs.SoundLaws.{delays-length, delays-at, holds-read}
+use Rattle.weights.proofs.CodeLaws.{plus-coded}
+use Rattle.weights.proofs.SoundLaws.{delays-length, delays-at, holds-read}
 use Rattle.opening.proofs.WithinLaws.{within-tabled, within-sound}
 
 -- ---- delays

@@ -1,8 +1,16 @@
-// The limits of a batch's numbers, as tests: n, m and p (4), a delay's jobs (5) and its weight (6).
+// The limits of a batch's numbers, as tests: the edition (3), n, m and p (4), a delay's jobs (5) and its weight (6), and a job's ends (20).
 use model::Delay;
 ghost use mathlib.Core.Path.{_≡_};
 ghost use mathlib.Core.Bool.{_&&_};
-ghost use Rattle.model.specs.Open.{countsOk, ticksOk, jobsOk, weightOk};
+ghost use Rattle.model.specs.Window.{endsOk};
+ghost use Rattle.model.specs.Open.{editionOk, countsOk, ticksOk, jobsOk, weightOk};
+
+// The edition is 01 or 02.
+pub fn edition_ok(edition: u8) -> bool
+    ensures { λ r. ⌜ r ≡ editionOk edition ⌝ }
+{
+    edition == 1 || edition == 2
+}
 
 // n is 1 to 24, and m at most 128.
 pub fn counts_ok(n: u8, m: u8) -> bool
@@ -18,7 +26,7 @@ pub fn counts_ok(n: u8, m: u8) -> bool
 }
 
 // p is 1 to 16.
-pub fn ticks_ok(p: u8) -> bool
+pub fn ticks_ok(p: u16) -> bool
     ensures { λ r. ⌜ r ≡ ticksOk p ⌝ }
 {
     1 <= p && p <= 16
@@ -52,4 +60,11 @@ pub fn delay_ok(n: u8, q: Delay) -> bool
     ensures { λ r. ⌜ r ≡ (jobsOk n q && weightOk q) ⌝ }
 {
     jobs_ok(n, q) && weight_ok(q)
+}
+
+// The earliest start is at most 20,000, and at most the latest.
+pub fn ends_ok(earliest: u16, latest: u16) -> bool
+    ensures { λ r. ⌜ r ≡ endsOk earliest latest ⌝ }
+{
+    earliest <= 20000 && earliest <= latest
 }

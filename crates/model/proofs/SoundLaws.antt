@@ -54,17 +54,17 @@ unfolding soundBatch
 sound-passes b e =
     let f = both _ (delaysMet b) e in
     let g = both _ (fewClashes b) (f .0) in
-    let x = both _ (soundFurther b) (g .0) in
-    let y = both _ (soundEdition b) (x .0) in
-    let h = both _ (all weightOk (delaysOf b)) (y .0) in
+    let h = both _ (all weightOk (delaysOf b)) (g .0) in
     let i = both _ (all (jobsOk (b .n)) (delaysOf b)) (h .0) in
-    let j = both (countsOk (b .n) (b .m)) (all (λ i. ticksOk (ticks b i)) (count 0 (b .n))) (i .0) in
+    let x = both _ (soundFurther b) (i .0) in
+    let y = both _ (soundEdition b) (x .0) in
+    let j = both (countsOk (b .n) (b .m)) (all (λ i. ticksOk (ticks b i)) (count 0 (b .n))) (y .0) in
     record { counts = j .0; ticks-each = j .1; jobs-each = i .1; weight-each = h .1; edition = y .1; further = x .1; few = g .1; met = f .1 }
 
 pub passes-sound : (b : Batch) → Passes b → soundBatch b ≡ true
 unfolding soundBatch
 passes-sound b p =
-    and (and (and (and (and (and (and (p .counts) (p .ticks-each)) (p .jobs-each)) (p .weight-each)) (p .edition)) (p .further)) (p .few)) (p .met)
+    and (and (and (and (and (and (and (p .counts) (p .ticks-each)) (p .edition)) (p .further)) (p .jobs-each)) (p .weight-each)) (p .few)) (p .met)
 
 -- an edition that the format knows, with the further lines that it may have
 pub edition-sound : (b : Batch) → Edition b → soundEdition b ≡ true

@@ -29,8 +29,8 @@ soundFurther b = all (windowOk b) (count 0 (b .n))
 -- its batch passes 4, 5, 6, 9 and 10
 unfoldable pub soundBatch : Batch → Bool
 soundBatch b =
-    countsOk (b .n) (b .m) && all (λ i. ticksOk (ticks b i)) (count 0 (b .n))
-    && all (jobsOk (b .n)) (delaysOf b) && all weightOk (delaysOf b) && soundEdition b && soundFurther b && fewClashes b && delaysMet b
+    countsOk (b .n) (b .m) && all (λ i. ticksOk (ticks b i)) (count 0 (b .n)) && soundEdition b && soundFurther b
+    && all (jobsOk (b .n)) (delaysOf b) && all weightOk (delaysOf b) && fewClashes b && delaysMet b
 
 unfoldable pub distinct : List ℕ → Bool
 distinct [] = true

@@ -9,7 +9,7 @@ use Rattle.model.proofs.ListLaws.{each-all}
 use Rattle.model.proofs.LimitLaws.{within-limits}
 use Rattle.clashes.specs.declared.Clashes.{Clashes}
 use Rattle.clashes.specs.List.{Tabled, listOf}
-use Rattle.starts.specs.Delays.{DelaysSound}
+use Rattle.weights.specs.Delays.{DelaysSound}
 
 -- a batch within the limits
 module _ (b : Batch) (w : Within b) where

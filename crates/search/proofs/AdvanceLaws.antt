@@ -15,17 +15,17 @@ use Rattle.model.specs.Search.{Place, empty, placeOf, searchOf, nodesOn, nodes}
 use Rattle.model.specs.Sound.{sound}
 use Rattle.model.proofs.LimitLaws.{counts-iff}
 use Rattle.model.proofs.SoundLaws.{record-passes, fits}
-use Rattle.starts.specs.Rounds.{Small}
+use Rattle.times.specs.Fill.{Small}
 use Rattle.clashes.specs.First.{Known}
 use Rattle.clashes.specs.Pairs.{Near, Paired}
 use Rattle.clashes.proofs.LimitLaws.{tabled}
 use Rattle.clashes.proofs.ListedLaws.{list-fits, list-known, list-near}
-use Rattle.starts.specs.declared.delays.Delays.{Delays}
+use Rattle.weights.specs.declared.delays.Delays.{Delays}
 use Rattle.starts.specs.Table.{Placed}
-use Rattle.starts.specs.Delays.{delaysRead, heaviestOf}
+use Rattle.weights.specs.Delays.{delaysRead, heaviestOf}
 use Rattle.starts.proofs.HeldLaws.{held-placed}
-use Rattle.starts.proofs.SoundLaws.{delays-length, holds-read}
-use Rattle.starts.specs.Latency.{longestOf}
+use Rattle.weights.proofs.SoundLaws.{delays-length, holds-read}
+use Rattle.times.specs.Latency.{longestOf}
 use Rattle.soundness.specs.declared.Examined.{Examined}
 use Rattle.soundness.specs.Examined.{Prepared}
 use Rattle.search.specs.declared.node.Walk.{Walk}

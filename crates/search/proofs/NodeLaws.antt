@@ -11,7 +11,7 @@ use Rattle.model.specs.declared.Best.the-variants.{Nothing, Latency}
 use Rattle.model.specs.Common.{count}
 use Rattle.model.specs.Search.{turnedBack, backTo, back}
 use Rattle.clashes.specs.First.{Named}
-use Rattle.starts.specs.Turn.{turnFrom, turnTo, turnCode}
+use Rattle.weights.specs.Turn.{turnFrom, turnTo, turnCode}
 use Rattle.search.specs.Walk.{turnsIn, Path, Kin, Coded, Steps, backAs, boundOf, incumbent, placeAt}
 use Rattle.search.specs.Kit.{Returned}
 use Rattle.search.proofs.StepsLaws.{steps-more, steps-less}

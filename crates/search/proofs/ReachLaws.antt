@@ -24,13 +24,13 @@ use Rattle.model.proofs.GoodLaws.{good-named}
 use Rattle.model.proofs.SoundLaws.{fits}
 use Rattle.model.proofs.UnderLaws.{Under, under-rounds, stopped-back, beyond-none}
 use Rattle.starts.specs.Rounds.{Reached, roundsOf}
-use Rattle.starts.specs.Delays.{delaysRead}
-use Rattle.starts.specs.Stays.{staysRead}
-use Rattle.starts.specs.Latency.{latencyOf}
+use Rattle.weights.specs.Delays.{delaysRead}
+use Rattle.times.specs.Stays.{staysRead}
+use Rattle.times.specs.Latency.{latencyOf}
 use Rattle.starts.specs.Least.{leastOf}
 use Rattle.starts.proofs.PlaceLaws.{Tabled}
-use Rattle.starts.proofs.LatencyLaws.{latency-padded}
-use Rattle.starts.proofs.SoundLaws.{delays-length}
+use Rattle.times.proofs.LatencyLaws.{latency-padded}
+use Rattle.weights.proofs.SoundLaws.{delays-length}
 use Rattle.starts.proofs.FromLaws.{Came}
 use Rattle.starts.proofs.Law.{pathTable, path-tabled, came, found-below, found-least, lost-least}
 use Rattle.search.specs.declared.node.Walk.{Walk}

@@ -19,12 +19,12 @@ use Rattle.model.specs.Search.{turned, inequalities}
 use Rattle.model.proofs.SeqLaws.{pad-at, pad-length, map-snoc, listed-cong}
 use Rattle.model.proofs.StartsLaws.{first-length}
 use Rattle.model.proofs.UnderLaws.{Under, under-first, under-path, under-raised}
-use Rattle.starts.specs.Code.{coded, Fits}
-use Rattle.starts.specs.Rounds.{Small}
-use Rattle.starts.specs.Latency.{latencyOf, longestOf}
-use Rattle.starts.proofs.CodeLaws.{plus-coded}
-use Rattle.starts.proofs.FillLaws.{set-all, zeros-small}
-use Rattle.starts.proofs.LatencyLaws.{latency-set}
+use Rattle.weights.specs.Code.{coded, Fits}
+use Rattle.times.specs.Fill.{Small}
+use Rattle.times.specs.Latency.{latencyOf, longestOf}
+use Rattle.weights.proofs.CodeLaws.{plus-coded}
+use Rattle.times.proofs.FillLaws.{set-all, zeros-small}
+use Rattle.times.proofs.LatencyLaws.{latency-set}
 use Rattle.starts.proofs.MetLaws.{zeros}
 use Rattle.search.specs.Walk.{turnOf, turnsIn, Kin}
 use Rattle.search.specs.Rows.{raisedStart, raisedRow, begun, Base, Kept}

@@ -6,7 +6,7 @@ use native.Mathlib.Omega.{arith}
 use native.Mathlib.Decide.{ℕ-discrete}
 use lib.ListN.{length, getD, set, replicate, length-set, length-replicate}
 use lib.Seq.{getD-set-same, getD-set-other}
-use Rattle.starts.specs.Turn.{turnFrom, turnTo, turnCode}
+use Rattle.weights.specs.Turn.{turnFrom, turnTo, turnCode}
 use Rattle.search.specs.Walk.{Steps}
 
 -- one place more of one array, where the turn and its clash's number are what the code has read

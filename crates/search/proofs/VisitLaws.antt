@@ -28,10 +28,10 @@ use Rattle.clashes.specs.declared.Met.the-variants as seen
 use Rattle.clashes.specs.First.{Named as NamedCode, Known, Unmet, metOf, firstCode}
 use Rattle.clashes.specs.Pairs.{OfJobs, NoneMet}
 use Rattle.clashes.proofs.ListedLaws.{list-fits, list-known, first-listed}
-use Rattle.starts.specs.Rounds.{Small}
-use Rattle.starts.specs.Latency.{latencyOf}
-use Rattle.starts.specs.Turn.{turnFrom, turnTo, turnCode}
-use Rattle.starts.proofs.LatencyLaws.{latency-padded}
+use Rattle.times.specs.Fill.{Small}
+use Rattle.times.specs.Latency.{latencyOf}
+use Rattle.weights.specs.Turn.{turnFrom, turnTo, turnCode}
+use Rattle.times.proofs.LatencyLaws.{latency-padded}
 use Rattle.starts.proofs.RoundLaws.{below-small}
 use Rattle.search.specs.declared.node.Walk.{Walk}
 use Rattle.search.specs.declared.node.Sizes.{Sizes}

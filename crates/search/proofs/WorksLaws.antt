@@ -33,16 +33,16 @@ use Rattle.clashes.specs.List.{Tabled, listOf}
 use Rattle.clashes.specs.First.{Named as NamedCode}
 use Rattle.clashes.proofs.LimitLaws.{tabled}
 use Rattle.clashes.proofs.ListedLaws.{ranged-at, listed-at as clash-listed-at, list-code}
-use Rattle.starts.specs.Code.{coded, Fits, ClashFits}
-use Rattle.starts.specs.Rounds.{Small}
+use Rattle.weights.specs.Code.{coded, Fits, ClashFits}
+use Rattle.times.specs.Fill.{Small}
 use Rattle.starts.specs.Table.{Placed}
-use Rattle.starts.specs.Delays.{delaysRead, heaviestOf}
-use Rattle.starts.specs.Stays.{staysRead}
+use Rattle.weights.specs.Delays.{delaysRead, heaviestOf}
+use Rattle.times.specs.Stays.{staysRead}
 use Rattle.starts.specs.Least.{Holds}
 use Rattle.starts.proofs.HeldLaws.{held-placed, heavy-placed}
-use Rattle.starts.proofs.TurnLaws.{clash-named, turn-side}
-use Rattle.starts.proofs.LatencyLaws.{stays-small}
-use Rattle.starts.proofs.SoundLaws.{delays-length, holds-read}
+use Rattle.weights.proofs.TurnLaws.{clash-named, turn-side}
+use Rattle.times.proofs.LatencyLaws.{stays-small}
+use Rattle.weights.proofs.SoundLaws.{delays-length, holds-read}
 use Rattle.search.specs.declared.node.Walk.{Walk}
 use Rattle.search.specs.declared.node.Sizes.{Sizes}
 use Rattle.search.specs.Walk.{turnOf, turnsIn, Path, Coded, boundOf, placeAt}

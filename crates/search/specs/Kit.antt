@@ -14,9 +14,9 @@ use Rattle.model.specs.Search.{startsAt, prunes, back, next, searchOf, nodesOn}
 use Rattle.model.specs.Sound.{sound}
 use Rattle.clashes.specs.List.{listOf}
 use Rattle.clashes.specs.Pairs.{Paired}
-use Rattle.starts.specs.Delays.{delaysRead, heaviestOf}
-use Rattle.starts.specs.Stays.{staysRead}
-use Rattle.starts.specs.Latency.{longestOf}
+use Rattle.weights.specs.Delays.{delaysRead, heaviestOf}
+use Rattle.times.specs.Stays.{staysRead}
+use Rattle.times.specs.Latency.{longestOf}
 use Rattle.search.specs.declared.node.Walk.{Walk}
 use Rattle.search.specs.declared.node.Sizes.{Sizes}
 use Rattle.search.specs.declared.nodes.Walked.{Walked}

@@ -10,8 +10,8 @@ use Rattle.model.specs.Common.{if_then_else_, pad}
 use Rattle.model.specs.Clash.{clashes}
 use Rattle.model.specs.Search.{inequalities}
 use Rattle.model.proofs.UnderLaws.{Under}
-use Rattle.starts.specs.Rounds.{Small}
-use Rattle.starts.specs.Latency.{latencyOf}
+use Rattle.times.specs.Fill.{Small}
+use Rattle.times.specs.Latency.{latencyOf}
 use Rattle.search.specs.Walk.{turnsIn}
 
 -- no start is above 23,016, and no latency

@@ -10,7 +10,7 @@ use Rattle.model.specs.declared.Best.the-variants.{Nothing, Latency}
 use Rattle.model.specs.Common.{count}
 use Rattle.model.specs.Search.{Incumbent, Place}
 use Rattle.clashes.specs.First.{Named}
-use Rattle.starts.specs.Turn.{turnFrom, turnTo, turnCode}
+use Rattle.weights.specs.Turn.{turnFrom, turnTo, turnCode}
 use Rattle.search.specs.declared.node.Walk.{Walk}
 
 -- the turn of a number

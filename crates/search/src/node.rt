@@ -8,7 +8,7 @@ use clashes::unmet;
 use model::Best;
 use model::wide16;
 use starts::least_starts;
-use starts::turn::store_turn;
+use weights::turn::store_turn;
 ghost use mathlib.Core.Path.{_≡_};
 ghost use lib.ListN.{replicate};
 ghost use Rattle.search.specs.Walk.{Path, Coded, Steps, boundOf};

@@ -3,11 +3,11 @@
 // nothing else.
 use model::wide;
 use model::wide16;
-use starts::latency::larger;
-use starts::latency::stay_wide;
+use times::latency::larger;
+use times::latency::stay_wide;
 ghost use mathlib.Core.Path.{_≡_};
 ghost use Prim.Native.Nat.{_≤_};
-ghost use Rattle.starts.specs.Rounds.{Small};
+ghost use Rattle.times.specs.Fill.{Small};
 ghost use Rattle.starts.specs.Table.{Placed};
 ghost use Rattle.search.specs.Rows.{SmallRing, begun};
 

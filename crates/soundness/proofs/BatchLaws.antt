@@ -9,8 +9,8 @@ use Rattle.model.specs.Open.{countsOk, jobsOk, weightOk}
 use Rattle.model.proofs.BoolLaws.{both, passes}
 use Rattle.clashes.specs.List.{Tabled}
 use Rattle.clashes.proofs.LimitLaws.{tabled}
-use Rattle.starts.specs.declared.delays.Reading.{Reading}
-use Rattle.starts.specs.Delays.{DelaysSound, delaysPass, ReadsDelays}
+use Rattle.weights.specs.declared.delays.Reading.{Reading}
+use Rattle.weights.specs.Delays.{DelaysSound, delaysPass, ReadsDelays}
 use Rattle.soundness.specs.Limits.{ticksPass, countsPass}
 use Rattle.soundness.proofs.LimitLaws.{few-jobs, some-jobs, few-delays}
 

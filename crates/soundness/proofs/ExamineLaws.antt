@@ -19,9 +19,9 @@ use Rattle.model.proofs.BoolLaws.{apart, both, and, and-false, passes, fails}
 use Rattle.clashes.specs.declared.Clashes.{Clashes}
 use Rattle.clashes.specs.List.{listOf}
 use Rattle.clashes.proofs.ListedLaws.{list-count}
-use Rattle.starts.specs.declared.delays.Reading.{Reading}
-use Rattle.starts.specs.Delays.{delaysPass, ReadsDelays}
-use Rattle.starts.specs.Stays.{staysRead}
+use Rattle.weights.specs.declared.delays.Reading.{Reading}
+use Rattle.weights.specs.Delays.{delaysPass, ReadsDelays}
+use Rattle.times.specs.Stays.{staysRead}
 use Rattle.soundness.specs.declared.path.Route.{Route}
 use Rattle.soundness.specs.declared.Examined.{Examined}
 use Rattle.soundness.specs.Limits.{ticksPass, countsPass}

@@ -8,7 +8,7 @@ use Rattle.model.specs.declared.Batch.{Batch}
 use Rattle.model.specs.Batch.{ticks}
 use Rattle.model.specs.Open.{countsOk, ticksOk}
 use Rattle.model.proofs.LimitLaws.{counts-iff}
-use Rattle.starts.proofs.StaysLaws.{ticks-told}
+use Rattle.times.proofs.StaysLaws.{ticks-told}
 use Rattle.soundness.specs.Limits.{ticksPass}
 use Rattle.model.proofs.AllLaws.{allFrom, all-start}
 

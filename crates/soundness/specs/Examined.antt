@@ -7,8 +7,8 @@ use Rattle.model.specs.Limits.{mostTotal}
 use Rattle.model.specs.Search.{turnsOf}
 use Rattle.model.specs.Sound.{soundPath, soundBest, sound}
 use Rattle.clashes.specs.List.{listOf}
-use Rattle.starts.specs.Delays.{delaysRead}
-use Rattle.starts.specs.Stays.{staysRead}
+use Rattle.weights.specs.Delays.{delaysRead}
+use Rattle.times.specs.Stays.{staysRead}
 use Rattle.soundness.specs.declared.Examined.{Examined}
 use Rattle.soundness.specs.Path.{Coded}
 

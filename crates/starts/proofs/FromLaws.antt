@@ -1,5 +1,5 @@
 -- Rounds from any starts, over a table that holds a list of inequalities, are the definition's rounds over the list: after each of them starts and
--- latency are the definition's, and no start passes 23,016 while they go on.
+-- latency are the definition's, and no start passes 43,016 while they go on.
 use mathlib.Core.Path.{_≡_, refl, sym, _∙_, ap}
 use mathlib.Core.Bool.{Bool, true, false}
 use mathlib.Core.List.{List, map}
@@ -16,9 +16,10 @@ use Rattle.model.proofs.BoolLaws.{apart}
 use Rattle.model.proofs.SeqLaws.{pad-at, pad-length}
 use Rattle.model.proofs.StartsLaws.{rounds-length}
 use Rattle.model.proofs.UnderLaws.{round-more}
-use Rattle.starts.specs.Rounds.{Small, startOf, roundOf, sameTo, Reached, roundsOf}
-use Rattle.starts.specs.Latency.{latencyOf, raisedBy}
-use Rattle.starts.proofs.FillLaws.{filled-is, filled-cong, filled-rest}
+use Rattle.times.specs.Fill.{Small}
+use Rattle.starts.specs.Rounds.{startOf, roundOf, sameTo, Reached, roundsOf}
+use Rattle.times.specs.Latency.{latencyOf, raisedBy}
+use Rattle.times.proofs.FillLaws.{filled-is, filled-cong, filled-rest}
 use Rattle.starts.proofs.PlaceLaws.{Tabled}
 use Rattle.starts.proofs.RaisedLaws.{start-raised, raised-past, raised-cong}
 use Rattle.starts.proofs.RoundLaws.{same-self, same-at, below-small, next-latency}
@@ -43,7 +44,7 @@ pub record Came (qs : List Delay) (base stays : List ℕ) (bound k : ℕ) (r : R
 
 module _ (n : ℕ) (few : n ≤ 24) (t : List (List ℕ)) (qs : List Delay) (h : Tabled n t qs) (fours : ℕ) (low : n ≤ 4 * fours) (high : 4 * fours ≤ 24) where
   -- a round of the code is a round of the definition
-  round-from : (old : List ℕ) → length old ≡ n → Small (pad 24 0 old) 23016 → roundOf t (pad 24 0 old) (4 * fours) ≡ pad 24 0 (rounds qs old 1)
+  round-from : (old : List ℕ) → length old ≡ n → Small (pad 24 0 old) 43016 → roundOf t (pad 24 0 old) (4 * fours) ≡ pad 24 0 (rounds qs old 1)
   unfolding roundOf rounds
   round-from old len small =
       filled-cong (λ j. startOf t (pad 24 0 old) j (4 * fours)) (raised qs old) 24 24 start
@@ -61,7 +62,7 @@ module _ (n : ℕ) (few : n ≤ 24) (t : List (List ℕ)) (qs : List Delay) (h :
   same-starts a b p q e =
       ext-getD 0 a b (p ∙ sym q) (λ i w. sym (pad-at 24 0 a i) ∙ same-at _ _ 24 e i (omega arith) ∙ pad-at 24 0 b i)
 
-  module _ (base stays : List ℕ) (len : length base ≡ n) (bound : ℕ) (limit : bound ≤ 23017) (end : ℕ) where
+  module _ (base stays : List ℕ) (len : length base ≡ n) (bound : ℕ) (limit : bound ≤ 43017) (end : ℕ) where
     -- the starts after a rounds, as the code has them
     abbrev at : ℕ → List ℕ
     at a = pad 24 0 (rounds qs base a)

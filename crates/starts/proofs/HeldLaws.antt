@@ -1,4 +1,4 @@
--- Arrays that hold a list of inequalities fill a table that holds the list: put in one after the other, or, where each has the largest code of its
+-- Arrays that hold a list of inequalities fill a table that holds the list: put in one after the other, or, where each has the smallest code of its
 -- pair, stored without a comparison.
 use mathlib.Core.Path.{_≡_, refl, sym, _∙_, ap}
 use mathlib.Core.Logic.{_⊎_, inl, inr}
@@ -11,23 +11,19 @@ use lib.ListN.{length, getD, take}
 use lib.Seq.{take-suc, take-length}
 use Rattle.model.specs.declared.Delay.{Delay}
 use Rattle.model.specs.Batch.{blankDelay}
-use Rattle.model.specs.Starts.{entry}
-use Rattle.starts.specs.Code.{coded, placeCode}
-use Rattle.starts.specs.Rounds.{filled}
-use Rattle.starts.specs.Table.{storeIn, withPut, withStored, emptyTable, Placed}
-use Rattle.starts.specs.Delays.{heaviestOf}
-use Rattle.starts.specs.Least.{Holds}
-use Rattle.starts.proofs.CodeLaws.{coded-most}
-use Rattle.starts.proofs.FillLaws.{filled-at}
-use Rattle.starts.proofs.TableLaws.{empty-small, puts-small}
+use Rattle.weights.specs.Code.{coded}
+use Rattle.times.specs.Fill.{filled}
+use Rattle.starts.specs.Table.{storeIn, withPut, withStored, emptyTable, heaviestOf, Placed}
+use Rattle.weights.specs.Holds.{Holds}
+use Rattle.times.proofs.FillLaws.{filled-at}
 use Rattle.starts.proofs.PlaceLaws.{codeAt, kept, code-snoc, Tabled, empty-tabled, put-tabled, store-rows, store-wide, store-same, store-other, other-pair}
 
 -- without inequalities a place is empty
-code-none : (i j : ℕ) → codeAt [] i j ≡ 0
-unfolding codeAt entry placeCode
+code-none : (i j : ℕ) → codeAt [] i j ≡ 65535
+unfolding codeAt
 code-none i j = refl
 
--- ---- the loop that finds the largest codes
+-- ---- the loop that finds the smallest codes, those of the largest weights
 
 pub heavy-is : (m : ℕ) (froms tos codes : List ℕ) (t : List (List ℕ)) (r : List ℕ) → t ≡ withPut froms tos codes emptyTable m
     → r ≡ filled (λ k. getD (getD t (getD froms k 0) []) (getD tos k 0) 0) 128 m → r ≡ heaviestOf m froms tos codes
@@ -41,12 +37,11 @@ module _ (n : ℕ) (few : n ≤ 24) (qs : List Delay) (froms tos codes : List �
   abbrev item : ℕ → Delay
   item k = getD qs k blankDelay
 
-  pub held-placed : Placed froms tos codes (length qs)
+  pub held-placed : Placed froms tos (length qs)
   held-placed =
       record {
         from = λ k p. omega (arith, h .from k p, h .fits k p .from);
         to = λ k p. omega (arith, h .to k p, h .fits k p .to);
-        code = λ k p. omega (arith, h .code k p, coded-most (item k .weight) (h .fits k p .weight));
       }
 
   -- put in
@@ -62,10 +57,10 @@ module _ (n : ℕ) (few : n ≤ 24) (qs : List Delay) (froms tos codes : List �
   pub held-tabled : (t : List (List ℕ)) (rs : List Delay) → Tabled n t rs → Tabled n (withPut froms tos codes t (length qs)) (rs ++ qs)
   held-tabled t rs d = rw (take-length qs) at (puts-tabled t rs d (length qs) (omega arith))
 
-  -- ---- stored, each with the largest code of its pair
+  -- ---- stored, each with the smallest code of its pair
 
   module _ (most : length qs ≤ 128) where
-    -- the table, and the largest codes
+    -- the table, and the smallest codes
     abbrev full : List (List ℕ)
     full = withPut froms tos codes emptyTable (length qs)
 
@@ -79,20 +74,11 @@ module _ (n : ℕ) (few : n ≤ 24) (qs : List Delay) (froms tos codes : List �
     unfolding heaviestOf
     heavy-at k p = filled-at (λ k. getD (getD full (getD froms k 0) []) (getD tos k 0) 0) 128 (length qs) k most p
 
-    pub heavy-placed : Placed froms tos heavy (length qs)
-    heavy-placed =
-        record {
-          from = held-placed .from;
-          to = held-placed .to;
-          code = λ k p.
-              omega (arith, heavy-at k p, puts-small froms tos codes emptyTable (length qs) held-placed empty-small (length qs) (omega arith) .row (getD froms k 0) .each (getD tos k 0));
-        }
-
-    -- after k of them a place has the largest code of its pair, or it is empty and none of the k is for its pair
+    -- after k of them a place has the smallest code of its pair, or it is empty and none of the k is for its pair
     record Stored (k : ℕ) (t : List (List ℕ)) : Type 0 where
       rows : length t ≡ 24
       wide : (i : ℕ) → i < 24 → length (getD t i []) ≡ 24
-      place : (i j : ℕ) → i < 24 → j < 24 → (getD (getD t i []) j 0 ≡ codeAt qs i j) ⊎ ((getD (getD t i []) j 0 ≡ 0) × (codeAt (take k qs) i j ≡ 0))
+      place : (i j : ℕ) → i < 24 → j < 24 → (getD (getD t i []) j 0 ≡ codeAt qs i j) ⊎ ((getD (getD t i []) j 0 ≡ 65535) × (codeAt (take k qs) i j ≡ 65535))
 
     stored : (k : ℕ) → k ≤ length qs → Stored k (withStored froms tos heavy emptyTable k)
     unfolding withStored kept
@@ -123,7 +109,7 @@ module _ (n : ℕ) (few : n ≤ 24) (qs : List Delay) (froms tos codes : List �
             new : List (List ℕ)
             new = storeIn t (getD froms k 0) (getD tos k 0) (getD heavy k 0)
 
-            other : (i j : ℕ) → i < 24 → j < 24 → (i ≡ getD froms k 0 → j ≡ getD tos k 0 → ⊥) → (getD (getD new i []) j 0 ≡ codeAt qs i j) ⊎ ((getD (getD new i []) j 0 ≡ 0) × (codeAt (take (suc k) qs) i j ≡ 0))
+            other : (i j : ℕ) → i < 24 → j < 24 → (i ≡ getD froms k 0 → j ≡ getD tos k 0 → ⊥) → (getD (getD new i []) j 0 ≡ codeAt qs i j) ⊎ ((getD (getD new i []) j 0 ≡ 65535) × (codeAt (take (suc k) qs) i j ≡ 65535))
             other i j a b e = pick (s .place i j a b)
               where
                 same : getD (getD new i []) j 0 ≡ getD (getD t i []) j 0
@@ -134,12 +120,12 @@ module _ (n : ℕ) (few : n ≤ 24) (qs : List Delay) (froms tos codes : List �
                     ap (λ (l : List Delay). codeAt l i j) (take-suc qs k blankDelay l) ∙ code-snoc (take k qs) (item k) i j
                     ∙ ap (λ (p : Bool). kept p (coded (item k .weight)) (codeAt (take k qs) i j)) (other-pair (item k) i j (λ u v. e (u ∙ sym (h .from k l)) (v ∙ sym (h .to k l))))
 
-                pick : (getD (getD t i []) j 0 ≡ codeAt qs i j) ⊎ ((getD (getD t i []) j 0 ≡ 0) × (codeAt (take k qs) i j ≡ 0))
-                    → (getD (getD new i []) j 0 ≡ codeAt qs i j) ⊎ ((getD (getD new i []) j 0 ≡ 0) × (codeAt (take (suc k) qs) i j ≡ 0))
+                pick : (getD (getD t i []) j 0 ≡ codeAt qs i j) ⊎ ((getD (getD t i []) j 0 ≡ 65535) × (codeAt (take k qs) i j ≡ 65535))
+                    → (getD (getD new i []) j 0 ≡ codeAt qs i j) ⊎ ((getD (getD new i []) j 0 ≡ 65535) × (codeAt (take (suc k) qs) i j ≡ 65535))
                 pick (inl g) = inl (same ∙ g)
                 pick (inr g) = inr (same ∙ g .0, unlike ∙ g .1)
 
-            at : (i j : ℕ) → i < 24 → j < 24 → Dec (i ≡ getD froms k 0) → Dec (j ≡ getD tos k 0) → (getD (getD new i []) j 0 ≡ codeAt qs i j) ⊎ ((getD (getD new i []) j 0 ≡ 0) × (codeAt (take (suc k) qs) i j ≡ 0))
+            at : (i j : ℕ) → i < 24 → j < 24 → Dec (i ≡ getD froms k 0) → Dec (j ≡ getD tos k 0) → (getD (getD new i []) j 0 ≡ codeAt qs i j) ⊎ ((getD (getD new i []) j 0 ≡ 65535) × (codeAt (take (suc k) qs) i j ≡ 65535))
             at i j a b (yes e) (yes g) = inl (rw (e, g) (store-same t (s .rows) (s .wide) _ _ _ from24 to24 ∙ heavy-at k l ∙ tabled .place _ _ from24 to24))
             at i j a b (yes e) (no g) = other i j a b (λ _ v. g v)
             at i j a b (no e) g = other i j a b (λ u _. e u)
@@ -150,6 +136,6 @@ module _ (n : ℕ) (few : n ≤ 24) (qs : List Delay) (froms tos codes : List �
         let s = stored (length qs) (omega arith) in
         record { rows = s .rows; wide = s .wide; place = λ i j a b. pick i j (s .place i j a b); fits = tabled .fits }
       where
-        pick : (i j : ℕ) {x : ℕ} → (x ≡ codeAt qs i j) ⊎ ((x ≡ 0) × (codeAt (take (length qs) qs) i j ≡ 0)) → x ≡ codeAt qs i j
+        pick : (i j : ℕ) {x : ℕ} → (x ≡ codeAt qs i j) ⊎ ((x ≡ 65535) × (codeAt (take (length qs) qs) i j ≡ 65535)) → x ≡ codeAt qs i j
         pick i j (inl e) = e
         pick i j (inr e) = e .0 ∙ sym (e .1) ∙ ap (λ (l : List Delay). codeAt l i j) (take-length qs)

@@ -2,7 +2,7 @@
 -- definition's table, after every round its starts and their latency are the definition's, and its answer tells of the definition's least starts.
 use mathlib.Core.Path.{_≡_, sym, _∙_, ap, subst}
 use mathlib.Core.Logic.{_⊎_, inl, inr}
-use mathlib.Core.Bool.{true, false}
+use mathlib.Core.Bool.{Bool, true, false, _&&_}
 use mathlib.Core.Option.{Option, none, some}
 use mathlib.Core.List.{List, [], map}
 use Prim.Native.Nat.{ℕ, suc, _+_, _*_, _/_, _≤_, _<_, pred}
@@ -14,32 +14,35 @@ use Rattle.model.specs.declared.Delay.{Delay}
 use Rattle.model.specs.declared.Batch.{Batch}
 use Rattle.model.specs.declared.Turn.{Turn}
 use Rattle.model.specs.Common.{count, pad}
-use Rattle.model.specs.Batch.{delaysOf}
+use lib.Dec.{eqb}
+use Rattle.model.specs.Batch.{delaysOf, earliestStarts, latestStarts}
 use Rattle.model.specs.Plan.{latency}
 use Rattle.model.specs.Clash.{Clash}
-use Rattle.model.specs.Starts.{entry, table, rounds, leastStarts}
+use Rattle.model.specs.Starts.{entry, table, rounds, inTime, leastStarts}
 use Rattle.model.specs.Search.{turned, inequalities}
-use Rattle.model.proofs.BoolLaws.{apart}
-use Rattle.model.proofs.SeqLaws.{listed-at, listed-length}
-use Rattle.model.proofs.StartsLaws.{Inside, rounds-length}
-use Rattle.model.proofs.UnderLaws.{Under, under-rounds, round-more, settled-least, changed-none}
-use Rattle.starts.specs.Code.{placeCode}
-use Rattle.starts.specs.Table.{withPut, withStored, emptyTable}
+use Rattle.model.proofs.BoolLaws.{apart, both}
+use Rattle.model.proofs.SeqLaws.{listed-at, listed-length, getD-same}
+use Rattle.model.proofs.StartsLaws.{Inside, rounds-length, ends-length, inside-ends}
+use Rattle.model.proofs.UnderLaws.{Below, under-rounds, round-more, settled-least, late-none, changed-none}
+use Rattle.weights.specs.Code.{placeCode}
+use Rattle.starts.specs.Table.{withPut, withStored, emptyTable, heaviestOf}
 use Rattle.starts.specs.Rounds.{Reached, roundsOf}
-use Rattle.starts.specs.Delays.{heaviestOf}
-use Rattle.starts.specs.Stays.{staysRead}
-use Rattle.starts.specs.Latency.{latencyOf}
-use Rattle.starts.specs.Least.{Holds}
-use Rattle.starts.proofs.PlaceLaws.{codeAt, Tabled}
+use Rattle.times.specs.Stays.{staysRead}
+use Rattle.times.specs.Latency.{latencyOf}
+use Rattle.starts.specs.Least.{timely}
+use Rattle.weights.specs.Holds.{Holds}
+use Rattle.times.specs.Ends.{latestRead, lateBy}
+use Rattle.times.proofs.EndsLaws.{time-is}
+use Rattle.starts.proofs.PlaceLaws.{code-is, Tabled}
 use Rattle.starts.proofs.HeldLaws.{held-tabled, heavy-tabled}
-use Rattle.starts.proofs.LatencyLaws.{latency-padded}
+use Rattle.times.proofs.LatencyLaws.{latency-padded}
 use Rattle.starts.proofs.FromLaws.{Changed, Ending, settled, stopped, used, Came, rounds-came}
 
 -- ---- the table
 
 -- the table that `least_starts` fills is the definition's, place by place
 pub table-is : (n : ℕ) (t : List (List ℕ)) (qs : List Delay) → Tabled n t qs → t ≡ map (map placeCode) (table qs)
-unfolding table codeAt placeCode
+unfolding table
 table-is n t qs h =
     ext-getD [] t (map (map placeCode) (table qs)) (h .rows ∙ sym (length-map (table qs) (map placeCode) ∙ listed-length line 24))
     (λ i p. row i (omega (arith, h .rows)))
@@ -55,11 +58,11 @@ table-is n t qs h =
     row i p =
         ext-getD 0 (getD t i []) (map placeCode (line i)) (h .wide i p ∙ sym (long i))
         (λ j q.
-        h .place i j p (omega (arith, h .wide i p))
-        ∙ sym (List·getD-map placeCode (line i) j none ∙ ap placeCode (listed-at (λ j. entry qs i j) none 24 j (omega (arith, h .wide i p)))))
+        h .place i j p (omega (arith, h .wide i p)) ∙ code-is n qs (h .fits) i j
+        ∙ sym (getD-same (map placeCode (line i)) j 0 (placeCode none) (omega (arith, h .wide i p, long i)) ∙ List·getD-map placeCode (line i) j none ∙ ap placeCode (listed-at (λ j. entry qs i j) none 24 j (omega (arith, h .wide i p)))))
         ∙ sym (List·getD-map (map placeCode) (table qs) i [] ∙ ap (map placeCode) (listed-at line [] 24 i p))
 
--- the table of a path: the delays, stored with the largest codes of their pairs, and then the turns
+-- the table of a path: the delays, stored with the smallest codes of their pairs, and then the turns
 abbrev pub pathTable : ℕ → List ℕ → List ℕ → List ℕ → List ℕ → List ℕ → List ℕ → ℕ → List (List ℕ)
 pathTable m froms tos codes tails heads gaps depth = withPut tails heads gaps (withStored froms tos (heaviestOf m froms tos codes) emptyTable m) depth
 
@@ -81,18 +84,20 @@ fours-low n = omega arith
 pub fours-high : (n : ℕ) → n ≤ 24 → 4 * ((n + 3) / 4) ≤ 24
 fours-high n h = omega arith
 
--- the inequalities of a table are between its jobs
-inside : (n : ℕ) (t : List (List ℕ)) (qs : List Delay) → Tabled n t qs → Inside n qs
+table-inside : (n : ℕ) (t : List (List ℕ)) (qs : List Delay) → Tabled n t qs → Inside n qs
 unfolding Inside
-inside n t qs h q m = (h .fits q m .from, h .fits q m .to)
+table-inside n t qs h q m = (h .fits q m .from, h .fits q m .to)
 
-module _ (n : ℕ) (few : n ≤ 24) (t : List (List ℕ)) (qs : List Delay) (h : Tabled n t qs) (base stays : List ℕ) (len : length base ≡ n) (bound : ℕ) (limit : bound ≤ 23017) (latency : ℕ) (l : latency ≡ latencyOf stays (pad 24 0 base) 24) (b : latency < bound) where
+module _ (b : Batch) (few : b .n ≤ 24) (t : List (List ℕ)) (qs : List Delay) (h : Tabled (b .n) t qs) (base stays : List ℕ) (len : length base ≡ b .n) (bound : ℕ) (limit : bound ≤ 43017) (latency : ℕ) (l : latency ≡ latencyOf stays (pad 24 0 base) 24) (low : latency < bound) where
+  abbrev n : ℕ
+  n = b .n
+
   -- what at most k rounds leave
   abbrev pub left : ℕ → Reached
   left k = roundsOf t stays ((n + 3) / 4) bound (pad 24 0 base) latency k
 
   pub came : (k : ℕ) → Came qs base stays bound k (left k)
-  came k = rounds-came n few t qs h _ (fours-low n) (fours-high n few) base stays len bound limit k latency l b
+  came k = rounds-came n few t qs h _ (fours-low n) (fours-high n few) base stays len bound limit k latency l low
 
   -- where a round changed nothing, the latency is below the bound
   pub found-below : left n .found ≡ true → left n .latency < bound
@@ -103,28 +108,60 @@ module _ (n : ℕ) (few : n ≤ 24) (t : List (List ℕ)) (qs : List Delay) (h :
       go (stopped e _ _) = apart (sym e ∙ f)
       go (used e _ _) = apart (sym e ∙ f)
 
-  module _ (one : 1 ≤ n) (u : Under qs base) where
+  module _ (one : 1 ≤ n) (u : Below b qs base) where
+    abbrev first : List ℕ
+    first = earliestStarts b
+
+    abbrev last : List ℕ
+    last = latestStarts b
+
+    -- the inequalities of a table are between its jobs
+    inside : Inside (length first) qs
+    inside = inside-ends b qs (table-inside n t qs h)
+
+    long : (l : List ℕ) → length l ≡ n → length l ≡ length first
+    long l e = e ∙ sym (ends-length b)
+
     -- if round n still changes something, there are none
-    pub changed-least : (j : ℕ) → j ≡ n → Changed qs base j → leastStarts n qs ≡ none
+    pub changed-least : (j : ℕ) → j ≡ n → Changed qs base j → leastStarts first last qs ≡ none
     changed-least j e c =
         let z : j ≡ suc (pred n) = omega arith in
-        changed-none n qs (inside n t qs h) base len u (pred n) (omega arith) (λ s. c (omega arith) (ap (rounds qs base) z ∙ s ∙ ap (λ (i : ℕ). rounds qs base (pred i)) (sym e)))
+        changed-none first last qs inside base (long base len) u (pred n) (omega (arith, ends-length b)) (λ s. c (omega arith) (ap (rounds qs base) z ∙ s ∙ ap (λ (i : ℕ). rounds qs base (pred i)) (sym e)))
 
-    -- a round without change: the least starts
-    pub found-least : left n .found ≡ true → leastStarts n qs ≡ some (rounds qs base (came n .j))
-    found-least f = go (came n .ending)
+    -- the starts that the rounds came to, and whether they are in time
+    abbrev ss : List ℕ
+    ss = rounds qs base (came n .j)
+
+    ss-long : length ss ≡ n
+    ss-long = rounds-length qs base _ ∙ len
+
+    pub time-told : eqb (lateBy (latestRead b) (left n .starts) 24) 0 ≡ inTime last ss
+    time-told = ap (λ (l : List ℕ). eqb (lateBy (latestRead b) l 24) 0) (came n .starts) ∙ time-is b few ss ss-long
+
+    -- a round without change, and starts in time: the least starts
+    settled-some : left n .found ≡ true → inTime last ss ≡ true → leastStarts first last qs ≡ some ss
+    settled-some f i = go (came n .ending)
       where
-        go : Ending qs base bound n (came n .j) (left n) → leastStarts n qs ≡ some (rounds qs base (came n .j))
-        go (settled _ e _) = settled-least n qs (inside n t qs h) _ (rounds-length qs base _ ∙ len) (under-rounds qs base u _) (round-more qs base _ ∙ e)
+        go : Ending qs base bound n (came n .j) (left n) → leastStarts first last qs ≡ some ss
+        go (settled _ e _) = settled-least first last qs inside ss (long ss ss-long) (under-rounds first last qs base u _) (round-more qs base _ ∙ e) i
         go (stopped e _ _) = apart (sym e ∙ f)
         go (used e _ _) = apart (sym e ∙ f)
 
+    abbrev pub found : Bool
+    found = timely (latestRead b) (left n) .found
+
+    pub found-least : found ≡ true → leastStarts first last qs ≡ some ss
+    unfolding timely
+    found-least f = let r = both (left n .found) _ f in settled-some (r .0) (sym time-told ∙ r .1)
+
     -- none: there are no least starts, or the bound was reached
-    pub lost-least : left n .found ≡ false → (leastStarts n qs ≡ none) ⊎ (bound ≤ left n .latency)
+    pub lost-least : found ≡ false → (leastStarts first last qs ≡ none) ⊎ (bound ≤ left n .latency)
+    unfolding timely
     lost-least f = go (came n .ending)
       where
-        go : Ending qs base bound n (came n .j) (left n) → (leastStarts n qs ≡ none) ⊎ (bound ≤ left n .latency)
-        go (settled e _ _) = apart (sym f ∙ e)
+        go : Ending qs base bound n (came n .j) (left n) → (leastStarts first last qs ≡ none) ⊎ (bound ≤ left n .latency)
+        go (settled e _ _) =
+            inl (late-none first last qs inside ss (long ss ss-long) (under-rounds first last qs base u _) (sym time-told ∙ ap (λ (p : Bool). p && eqb (lateBy (latestRead b) (left n .starts) 24) 0) (sym e) ∙ f))
         go (stopped _ p _) = inr p
         go (used _ e c) = inl (changed-least _ e c)
 
@@ -132,7 +169,7 @@ module _ (n : ℕ) (few : n ≤ 24) (t : List (List ℕ)) (qs : List Delay) (h :
 -- or not there are least starts in the end. k rounds are taken, fewer only where one changed nothing or the latency came to the bound
 pub every-round : (b : Batch) (cs : List Clash) (ts : List Turn) (m depth : ℕ) (froms tos codes tails heads gaps : List ℕ) → b .n ≤ 24 → m ≤ 128 → m ≡ length (delaysOf b) → depth ≡ length ts
     → Holds (b .n) (delaysOf b) froms tos codes → Holds (b .n) (map (turned cs) ts) tails heads gaps
-    → (base : List ℕ) → length base ≡ b .n → (bound first : ℕ) → bound ≤ 23017 → first ≡ latencyOf (staysRead b) (pad 24 0 base) 24 → first < bound → (k : ℕ) (r : Reached)
+    → (base : List ℕ) → length base ≡ b .n → (bound first : ℕ) → bound ≤ 43017 → first ≡ latencyOf (staysRead b) (pad 24 0 base) 24 → first < bound → (k : ℕ) (r : Reached)
     → r ≡ roundsOf (pathTable m froms tos codes tails heads gaps depth) (staysRead b) ((b .n + 3) / 4) bound (pad 24 0 base) first k
     → (j : ℕ) × (r .starts ≡ pad 24 0 (rounds (inequalities cs b ts) base j)) × (r .latency ≡ latency b (rounds (inequalities cs b ts) base j))
     × ((j ≡ k) ⊎ ((j ≤ k) × (((r .found ≡ true) × (rounds (inequalities cs b ts) base (suc j) ≡ rounds (inequalities cs b ts) base j)) ⊎ (bound ≤ r .latency))))
@@ -149,7 +186,7 @@ every-round b cs ts m depth froms tos codes tails heads gaps few most e d hd ht 
     Told r = (j : ℕ) × (r .starts ≡ pad 24 0 (rounds qs base j)) × (r .latency ≡ latency b (rounds qs base j)) × ((j ≡ k) ⊎ ((j ≤ k) × (((r .found ≡ true) × (rounds qs base (suc j) ≡ rounds qs base j)) ⊎ (bound ≤ r .latency))))
 
     c : Came qs base (staysRead b) bound k reached
-    c = came (b .n) few _ qs (path-tabled b cs ts m depth froms tos codes tails heads gaps few most e d hd ht) base (staysRead b) len bound limit first l p k
+    c = came b few _ qs (path-tabled b cs ts m depth froms tos codes tails heads gaps few most e d hd ht) base (staysRead b) len bound limit first l p k
 
     go : Ending qs base bound k (c .j) reached → (c .j ≡ k) ⊎ ((c .j ≤ k) × (((reached .found ≡ true) × (rounds qs base (suc (c .j)) ≡ rounds qs base (c .j))) ⊎ (bound ≤ reached .latency)))
     go (settled f e _) = inr (c .most, inl (f, e))

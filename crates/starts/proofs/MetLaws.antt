@@ -1,40 +1,59 @@
--- Whether the delays can be met, as the code finds it: it reads them, takes rounds over their table from starts that are all 0, and says whether one
--- of them changed nothing. The bound is never reached before round n: a round raises a start by at most 1,000.
-use mathlib.Core.Path.{_≡_, sym, ap, _∙_}
-use mathlib.Core.Bool.{false}
+-- Whether the delays and ends can be met, as the code finds it: it reads them, takes rounds over the delays' table from the earliest starts, and says whether
+-- one of them changed nothing and no start passes its latest. The bound is never reached before round n: a round raises a start by at most 1,000.
+use mathlib.Core.Path.{_≡_, refl, sym, ap, _∙_}
+use mathlib.Core.Logic.{_⊎_, inl, inr}
+use mathlib.Core.Bool.{Bool, true, false, _&&_}
+use mathlib.Core.Option.{Option, none}
 use mathlib.Core.List.{List}
-use Prim.Native.Nat.{ℕ, _+_, _-_, _*_, _/_, _≤_}
+use Prim.Native.Nat.{ℕ, _+_, _*_, _/_, _≤_, _<_}
 use native.Mathlib.Omega.{arith}
-use lib.ListN.{length, replicate, length-replicate, replicate-append-replicate}
+use lib.Dec.{eqb}
+use lib.ListN.{length, getD, replicate}
 use Rattle.model.specs.declared.Batch.{Batch}
 use Rattle.model.specs.Common.{isSome, pad}
-use Rattle.model.specs.Batch.{delaysOf}
-use Rattle.model.specs.Starts.{rounds, firstStarts, leastStarts}
+use Rattle.model.specs.Batch.{delaysOf, earliest, earliestStarts, latestStarts}
+use Rattle.model.specs.Starts.{rounds, leastStarts}
 use Rattle.model.specs.Open.{delaysMet}
 use Rattle.model.proofs.SeqLaws.{pad-at, blanks-at}
-use Rattle.model.proofs.StartsLaws.{first-length}
+use Rattle.model.proofs.StartsLaws.{after, ends-length}
+use Rattle.model.proofs.BoundLaws.{after-bound}
 use Rattle.model.proofs.UnderLaws.{under-first}
-use Rattle.starts.specs.declared.delays.Delays.{Delays}
-use Rattle.starts.specs.Rounds.{SmallRows, Reached, roundsOf}
-use Rattle.starts.specs.Latency.{latencyOf, longestOf}
+use Rattle.times.specs.Fill.{Small}
+use Rattle.times.specs.Ends.{earliestRead, latestRead, lateBy}
+use Rattle.times.specs.Latency.{latencyOf, raisedBy}
+use Rattle.times.proofs.FillLaws.{filled-length}
+use Rattle.times.proofs.EndsLaws.{earliest-is}
+use Rattle.times.proofs.LatencyLaws.{latency-most}
+use Rattle.weights.specs.declared.delays.Delays.{Delays}
+use Rattle.weights.specs.Delays.{delaysRead, DelaysSound}
+use Rattle.weights.specs.Holds.{Holds}
+use Rattle.weights.proofs.SoundLaws.{delays-length, holds-read}
+use Rattle.starts.specs.Rounds.{Reached, roundsOf}
 use Rattle.starts.specs.Table.{withPut, emptyTable, Placed}
-use Rattle.starts.specs.Delays.{delaysRead, DelaysSound}
-use Rattle.starts.specs.Least.{Holds}
-use Rattle.starts.proofs.TableLaws.{empty-small, puts-small}
+use Rattle.starts.specs.Least.{timely}
 use Rattle.starts.proofs.PlaceLaws.{Tabled, empty-tabled}
-use Rattle.starts.proofs.RaisedLaws.{rounds-bound}
+use Rattle.starts.proofs.RaisedLaws.{fits-slow}
 use Rattle.starts.proofs.HeldLaws.{held-placed, held-tabled}
-use Rattle.starts.proofs.LatencyLaws.{latency-most, longest-none}
 use Rattle.starts.proofs.FromLaws.{Changed, Ending, settled, stopped, used, Came}
-use Rattle.starts.proofs.SoundLaws.{delays-length, holds-read}
-use Rattle.starts.proofs.Law.{came, changed-least, found-least}
+use Rattle.starts.proofs.Law.{came, changed-least, found, found-least, lost-least}
 
--- no job has started
-pub zeros : (n : ℕ) → n ≤ 24 → pad 24 0 (firstStarts n) ≡ replicate 24 0
-unfolding pad firstStarts
-zeros n h =
-    let e : n + (24 - length (replicate {A = ℕ} n 0)) ≡ 24 = omega (arith, length-replicate {A = ℕ} n 0) in
-    replicate-append-replicate n (24 - length (replicate {A = ℕ} n 0)) 0 ∙ ap (λ (k : ℕ). replicate k 0) e
+-- no job stays
+abbrev pub noStays : List ℕ
+noStays = replicate 24 0
+
+-- ---- the starts that the rounds begin with
+
+module _ (b : Batch) (soon : Small (earliestRead b) 20000) (starts : List ℕ) (e : starts ≡ earliestRead b) where
+  pub begin-small : Small starts 44016
+  begin-small = record { each = λ i. omega (arith, soon .each i, ap (λ (l : List ℕ). getD l i 0) e) }
+
+  pub begin-fits : (latency : ℕ) → latency ≡ raisedBy noStays starts 0 → (length starts ≡ 24) × ((latency ≡ latencyOf noStays starts 24) × ((latency < 43017) × (43017 ≤ 43017)))
+  unfolding raisedBy earliestRead
+  begin-fits latency h =
+      let most = latency-most noStays starts 20000 24 (λ i. omega (arith, soon .each i, ap (λ (l : List ℕ). getD l i 0) e, blanks-at {A = ℕ} 24 i 0)) in
+      (ap length e ∙ filled-length (earliest b) 24 (b .n), (omega (arith, h), (omega (arith, h, most), omega arith)))
+
+-- ---- and what they come to
 
 module _ (b : Batch) (s : DelaysSound b) (d : Delays) (e : d ≡ delaysRead b) (m : ℕ) (p : m ≡ b .m) where
   held : Holds (b .n) (delaysOf b) (d .from) (d .to) (d .code)
@@ -43,58 +62,92 @@ module _ (b : Batch) (s : DelaysSound b) (d : Delays) (e : d ≡ delaysRead b) (
   all-of : m ≡ length (delaysOf b)
   all-of = p ∙ sym (delays-length b)
 
-  pub met-placed : Placed (d .from) (d .to) (d .code) m
+  pub met-placed : Placed (d .from) (d .to) m
   met-placed = rw all-of (held-placed (b .n) (s .most) (delaysOf b) (d .from) (d .to) (d .code) held)
 
-  module _ (t : List (List ℕ)) (q : t ≡ withPut (d .from) (d .to) (d .code) emptyTable m) where
-    pub met-small : SmallRows t
-    met-small = rw q (puts-small (d .from) (d .to) (d .code) emptyTable m met-placed empty-small m (omega arith))
-
+  module _ (t : List (List ℕ)) (q : t ≡ withPut (d .from) (d .to) (d .code) emptyTable m) (soon : Small (earliestRead b) 20000) where
     tabled : Tabled (b .n) t (delaysOf b)
     tabled = rw (q, all-of) (held-tabled (b .n) (s .most) (delaysOf b) (d .from) (d .to) (d .code) held emptyTable _ (empty-tabled (b .n)))
 
-    -- without stays the latency is the latest start, which is 0 at first
-    abbrev none-yet : List ℕ
-    none-yet = replicate 24 0
+    abbrev first : List ℕ
+    first = earliestStarts b
 
-    first : 0 ≡ latencyOf none-yet (pad 24 0 (firstStarts (b .n))) 24
-    unfolding longestOf
-    first = longest-none ∙ ap (λ (l : List ℕ). latencyOf none-yet l 24) (sym (zeros (b .n) (s .most)))
+    first-small : (i : ℕ) → getD first i 0 ≤ 20000
+    first-small i = omega (arith, soon .each i, ap (λ (l : List ℕ). getD l i 0) (earliest-is b (s .most)), pad-at 24 0 first i)
 
-    abbrev reached : Reached
-    reached = roundsOf t none-yet ((b .n + 3) / 4) 23017 (pad 24 0 (firstStarts (b .n))) 0 (b .n)
+    module _ (latency : ℕ) (l : latency ≡ latencyOf noStays (pad 24 0 first) 24) where
+      low : latency < 43017
+      low =
+          omega (arith, l, latency-most noStays (pad 24 0 first) 20000 24 (λ i. omega (arith, pad-at 24 0 first i, first-small i, blanks-at {A = ℕ} 24 i 0)))
 
-    all-came : Came (delaysOf b) (firstStarts (b .n)) none-yet 23017 (b .n) reached
-    all-came = came (b .n) (s .most) t (delaysOf b) tabled (firstStarts (b .n)) none-yet (first-length (b .n)) 23017 (omega arith) 0 first (omega arith) (b .n)
+      abbrev reached : Reached
+      reached = roundsOf t noStays ((b .n + 3) / 4) 43017 (pad 24 0 first) latency (b .n)
 
-    -- round n still changes something
-    unmet : (j : ℕ) → j ≡ b .n → Changed (delaysOf b) (firstStarts (b .n)) j → isSome (leastStarts (b .n) (delaysOf b)) ≡ false
-    unfolding isSome
-    unmet j g c =
-        ap isSome
-        (changed-least (b .n) (s .most) t (delaysOf b) tabled (firstStarts (b .n)) none-yet (first-length (b .n)) 23017 (omega arith) 0 first (omega arith) (s .some) (under-first (delaysOf b) (b .n)) j g c)
+      all-came : Came (delaysOf b) first noStays 43017 (b .n) reached
+      all-came = came b (s .most) t (delaysOf b) tabled first noStays (ends-length b) 43017 (omega arith) latency l low (b .n)
 
-    -- after j rounds no start is above 1,000 * j
-    latest : reached .latency ≤ 1000 * all-came .j
-    latest =
-        rw (all-came .latency)
-        (latency-most none-yet _ _ 24
-        (λ i. omega (arith, pad-at 24 0 (rounds (delaysOf b) (firstStarts (b .n)) (all-came .j)) i, rounds-bound (b .n) (delaysOf b) (tabled .fits) (all-came .j) i, blanks-at {A = ℕ} 24 i 0)))
+      -- after j rounds no start is above 20,000 + 1,000 * j
+      highest : reached .latency ≤ 20000 + 1000 * all-came .j
+      unfolding after
+      highest =
+          rw (all-came .latency)
+          (latency-most noStays _ _ 24
+          (λ i. omega (
+            arith,
+            pad-at 24 0 (rounds (delaysOf b) first (all-came .j)) i,
+            after-bound (delaysOf b) first 20000 first-small (λ q m. fits-slow (b .n) q (tabled .fits q m)) (all-came .j) i,
+            blanks-at {A = ℕ} 24 i 0,
+          )))
 
-    met-told : reached .found ≡ isSome (leastStarts (b .n) (delaysOf b))
-    unfolding isSome
-    met-told = go (all-came .ending)
-      where
-        go : Ending (delaysOf b) (firstStarts (b .n)) 23017 (b .n) (all-came .j) reached → reached .found ≡ isSome (leastStarts (b .n) (delaysOf b))
-        go (settled f _ _) =
-            f ∙ sym (ap isSome
-            (found-least (b .n) (s .most) t (delaysOf b) tabled (firstStarts (b .n)) none-yet (first-length (b .n)) 23017 (omega arith) 0 first (omega arith) (s .some) (under-first (delaysOf b) (b .n)) f))
-        go (stopped f p c) = f ∙ sym (unmet (all-came .j) (omega (arith, latest, all-came .most, s .most)) c)
-        go (used f p c) = f ∙ sym (unmet (all-came .j) p c)
+      abbrev least : Option (List ℕ)
+      least = leastStarts first (latestStarts b) (delaysOf b)
 
-    pub met-is : (n : ℕ) → n ≡ b .n → (x : Reached) → x ≡ roundsOf t none-yet ((n + 3) / 4) 23017 none-yet 0 n → x .found ≡ delaysMet b
-    unfolding delaysMet
-    met-is n g x h =
-        ap (λ (r : Reached). r .found)
-        (h ∙ ap (λ (k : ℕ). roundsOf t none-yet ((k + 3) / 4) 23017 none-yet 0 k) g ∙ ap (λ (l : List ℕ). roundsOf t none-yet ((b .n + 3) / 4) 23017 l 0 (b .n)) (sym (zeros (b .n) (s .most))))
-        ∙ met-told
+      abbrev answer : Bool
+      answer = found b (s .most) t (delaysOf b) tabled first noStays (ends-length b) 43017 (omega arith) latency l low (s .some) (under-first first (latestStarts b) (delaysOf b))
+
+      -- round n still changes something
+      unmet : (j : ℕ) → j ≡ b .n → Changed (delaysOf b) first j → least ≡ none
+      unmet = changed-least b (s .most) t (delaysOf b) tabled first noStays (ends-length b) 43017 (omega arith) latency l low (s .some) (under-first first (latestStarts b) (delaysOf b))
+
+      lost : answer ≡ false → least ≡ none
+      lost f = go (lost-least b (s .most) t (delaysOf b) tabled first noStays (ends-length b) 43017 (omega arith) latency l low (s .some) (under-first first (latestStarts b) (delaysOf b)) f)
+        where
+          past : 43017 ≤ reached .latency → Ending (delaysOf b) first 43017 (b .n) (all-came .j) reached → least ≡ none
+          past h (settled _ _ g) = absurd (omega arith)
+          past h (stopped _ _ c) = unmet (all-came .j) (omega (arith, highest, all-came .most, s .most)) c
+          past h (used _ g c) = unmet (all-came .j) g c
+
+          go : (least ≡ none) ⊎ (43017 ≤ reached .latency) → least ≡ none
+          go (inl g) = g
+          go (inr g) = past g (all-came .ending)
+
+      met-told : timely (latestRead b) reached .found ≡ delaysMet b
+      unfolding isSome delaysMet
+      met-told = go answer refl
+        where
+          go : (x : Bool) → answer ≡ x → x ≡ isSome least
+          go true f = sym (ap isSome (found-least b (s .most) t (delaysOf b) tabled first noStays (ends-length b) 43017 (omega arith) latency l low (s .some) (under-first first (latestStarts b) (delaysOf b)) f))
+          go false f = sym (ap isSome (lost f))
+
+    -- what the code finds: its rounds from the array of earliest starts, and the test of the latest
+    module _ (n : ℕ) (g : n ≡ b .n) (starts latest ss : List ℕ) (first-is : starts ≡ earliestRead b) (last-is : latest ≡ latestRead b) (latency risen : ℕ) (h : latency ≡ raisedBy noStays starts 0) (changed : Bool)
+        (r : record { starts = ss; latency = risen; found = changed } ≡ roundsOf t noStays ((n + 3) / 4) 43017 starts latency n) where
+      begins : starts ≡ pad 24 0 first
+      begins = first-is ∙ earliest-is b (s .most)
+
+      first-latency : latency ≡ latencyOf noStays starts 24
+      unfolding raisedBy
+      first-latency = omega (arith, h)
+
+      whole : changed && eqb (lateBy latest ss 24) 0 ≡ delaysMet b
+      unfolding timely
+      whole =
+          ap (λ (l : List ℕ). changed && eqb (lateBy l ss 24) 0) last-is
+          ∙ ap (λ (x : Reached). timely (latestRead b) x .found) (r ∙ ap (λ (k : ℕ). roundsOf t noStays ((k + 3) / 4) 43017 starts latency k) g ∙ ap (λ (l : List ℕ). roundsOf t noStays ((b .n + 3) / 4) 43017 l latency (b .n)) begins)
+          ∙ met-told latency (first-latency ∙ ap (λ (l : List ℕ). latencyOf noStays l 24) begins)
+
+      pub met-settled : changed ≡ true → (x : Bool) → x ≡ eqb (lateBy latest ss 24) 0 → x ≡ delaysMet b
+      met-settled f x k = k ∙ ap (λ (y : Bool). y && eqb (lateBy latest ss 24) 0) (sym f) ∙ whole
+
+      pub met-changed : changed ≡ false → changed ≡ delaysMet b
+      met-changed f = f ∙ ap (λ (y : Bool). y && eqb (lateBy latest ss 24) 0) (sym f) ∙ whole

@@ -4,8 +4,8 @@ use mathlib.Core.Path.{_≡_, refl, sym, _∙_, ap}
 use mathlib.Core.Logic.{_⊎_, inl, inr}
 use mathlib.Core.Bool.{Bool, true, false, _&&_}
 use mathlib.Core.Option.{Option, none, some}
-use mathlib.Core.List.{List, [], _∷_, _++_, List·Memᴰ, List·Memᴰ·append-cases, List·Memᴰ·eq-of-singleton, List·Memᴰ·not-nil}
-use Prim.Native.Nat.{ℕ, _≤_, _<_, max}
+use mathlib.Core.List.{List, [], _∷_, _++_, List·Memᴰ, List·Memᴰ·head, List·Memᴰ·tail, List·Memᴰ·append-cases, List·Memᴰ·eq-of-singleton, List·Memᴰ·not-nil}
+use Prim.Native.Nat.{ℕ, _≤_, _<_, min}
 use native.Mathlib.Omega.{arith}
 use native.Mathlib.Decide.{ℕ-discrete}
 use lib.Dec.{eqb}
@@ -18,45 +18,46 @@ use Rattle.model.specs.declared.Delay.{Delay}
 use Rattle.model.specs.Common.{if_then_else_}
 use Rattle.model.specs.Starts.{heavier, entry}
 use Rattle.model.proofs.BoolLaws.{and-false}
-use Rattle.starts.specs.Code.{coded, placeCode, Fits}
+use Rattle.weights.specs.Code.{Limited, coded, placeCode, Fits}
 use Rattle.starts.specs.Table.{storeIn, putIn, emptyTable}
-use Rattle.starts.proofs.CodeLaws.{coded-le, coded-gt}
+use Rattle.weights.proofs.CodeLaws.{coded-most, coded-le, coded-gt}
 
--- the code of the place for (i, j)
-unfoldable pub codeAt : List Delay → ℕ → ℕ → ℕ
-codeAt qs i j = placeCode (entry qs i j)
-
--- the larger of a code and what a place has, where the inequality is one for that place
+-- the smaller of a code and what a place has, where the inequality is one for that place
 unfoldable pub kept : Bool → ℕ → ℕ → ℕ
-kept true code old = max code old
+kept true code old = min code old
 kept false code old = old
 
-code-heavier : (w : ℤ) (o : Option ℤ) → coded (heavier w o) ≡ max (coded w) (placeCode o)
+-- the code of the place for (i, j): the smallest of the inequalities from i to j, that of the largest weight
+unfoldable pub codeAt : List Delay → ℕ → ℕ → ℕ
+codeAt [] i j = 65535
+codeAt (q ∷ qs) i j = kept (eqb (q .from) i && eqb (q .to) j) (coded (q .weight)) (codeAt qs i j)
+
+code-heavier : (w : ℤ) (o : Option ℤ) → Limited w → coded (heavier w o) ≡ min (coded w) (placeCode o)
 unfolding heavier placeCode if_then_else_
-code-heavier w none = omega arith
-code-heavier w (some v) = go (leZ v w) refl
+code-heavier w none h = omega (arith, coded-most w h)
+code-heavier w (some v) h = go (leZ v w) refl
   where
-    go : (b : Bool) → leZ v w ≡ b → coded (if b then w else v) ≡ max (coded w) (coded v)
+    go : (b : Bool) → leZ v w ≡ b → coded (if b then w else v) ≡ min (coded w) (coded v)
     go true e = omega (arith, coded-le v w e)
     go false e = omega (arith, coded-gt v w e)
 
-pub code-cons : (q : Delay) (qs : List Delay) (i j : ℕ) → codeAt (q ∷ qs) i j ≡ kept (eqb (q .from) i && eqb (q .to) j) (coded (q .weight)) (codeAt qs i j)
+-- it is that of the definition's place
+pub code-is : (n : ℕ) (qs : List Delay) → ((q : Delay) → List·Memᴰ q qs → Fits n q) → (i j : ℕ) → codeAt qs i j ≡ placeCode (entry qs i j)
 unfolding codeAt entry placeCode kept if_then_else_
-code-cons q qs i j = go (eqb (q .from) i && eqb (q .to) j)
+code-is n [] f i j = refl
+code-is n (q ∷ qs) f i j = go (eqb (q .from) i && eqb (q .to) j) (code-is n qs (λ p m. f p (List·Memᴰ·tail m)) i j)
   where
-    go : (b : Bool) → placeCode (if b then some (heavier (q .weight) (entry qs i j)) else entry qs i j) ≡ kept b (coded (q .weight)) (placeCode (entry qs i j))
-    go true = code-heavier (q .weight) (entry qs i j)
-    go false = refl
+    go : (b : Bool) → codeAt qs i j ≡ placeCode (entry qs i j) → kept b (coded (q .weight)) (codeAt qs i j) ≡ placeCode (if b then some (heavier (q .weight) (entry qs i j)) else entry qs i j)
+    go true e = ap (min (coded (q .weight))) e ∙ sym (code-heavier (q .weight) (entry qs i j) (f q (List·Memᴰ·head refl) .weight))
+    go false e = e
 
 -- the order of the inequalities does not matter
 pub code-snoc : (qs : List Delay) (q : Delay) (i j : ℕ) → codeAt (qs ++ (q ∷ [])) i j ≡ kept (eqb (q .from) i && eqb (q .to) j) (coded (q .weight)) (codeAt qs i j)
-unfolding kept
-code-snoc [] q i j = code-cons q [] i j
+unfolding kept codeAt
+code-snoc [] q i j = refl
 code-snoc (p ∷ qs) q i j =
-    code-cons p (qs ++ (q ∷ [])) i j
-    ∙ ap (kept (eqb (p .from) i && eqb (p .to) j) (coded (p .weight))) (code-snoc qs q i j)
+    ap (kept (eqb (p .from) i && eqb (p .to) j) (coded (p .weight))) (code-snoc qs q i j)
     ∙ swap (eqb (p .from) i && eqb (p .to) j) (eqb (q .from) i && eqb (q .to) j) (coded (p .weight)) (coded (q .weight)) (codeAt qs i j)
-    ∙ ap (kept (eqb (q .from) i && eqb (q .to) j) (coded (q .weight))) (sym (code-cons p qs i j))
   where
     swap : (a b : Bool) (x y z : ℕ) → kept a x (kept b y z) ≡ kept b y (kept a x z)
     swap true true x y z = omega arith
@@ -72,12 +73,12 @@ pub record Tabled (n : ℕ) (t : List (List ℕ)) (qs : List Delay) : Type 0 whe
   pub fits : (q : Delay) → List·Memᴰ q qs → Fits n q
 
 pub empty-tabled : (n : ℕ) → Tabled n emptyTable []
-unfolding emptyTable codeAt entry placeCode
+unfolding emptyTable codeAt
 empty-tabled n =
     record {
       rows = refl;
-      wide = λ i h. ap length (getD-replicate 24 i (replicate 24 0) [] h);
-      place = λ i j g h. ap (λ (r : List ℕ). getD r j 0) (getD-replicate 24 i (replicate 24 0) [] g) ∙ getD-replicate 24 j 0 0 h;
+      wide = λ i h. ap length (getD-replicate 24 i (replicate 24 65535) [] h);
+      place = λ i j g h. ap (λ (r : List ℕ). getD r j 0) (getD-replicate 24 i (replicate 24 65535) [] g) ∙ getD-replicate 24 j 65535 0 h;
       fits = λ q m. absurd (List·Memᴰ·not-nil m);
     }
 
@@ -141,7 +142,7 @@ module _ (n : ℕ) (few : n ≤ 24) (t : List (List ℕ)) (qs : List Delay) (h :
       from24 = omega (arith, f .from)
 
       code : ℕ
-      code = max (getD (getD t (q .from) []) (q .to) 0) (coded (q .weight))
+      code = min (getD (getD t (q .from) []) (q .to) 0) (coded (q .weight))
 
       other : (i j : ℕ) → i < 24 → j < 24 → (i ≡ q .from → j ≡ q .to → ⊥) → getD (getD (storeIn t (q .from) (q .to) code) i []) j 0 ≡ kept (eqb (q .from) i && eqb (q .to) j) (coded (q .weight)) (codeAt qs i j)
       other i j a b e = store-other t (h .rows) (h .wide) (q .from) (q .to) code from24 to24 i j e ∙ h .place i j a b ∙ rw (other-pair q i j e)

@@ -1,26 +1,25 @@
--- A round by the table is a round by the list of inequalities: start j by column j is the definition's raised start, and no round raises
+-- A round by the table is a round by the list of inequalities: start j by column j is the definition's raised start, and no inequality raises
 -- a start by more than 1,000.
-use mathlib.Core.Path.{_≡_, refl, _∙_, ap}
+use mathlib.Core.Path.{_≡_, refl, ap}
 use mathlib.Core.Bool.{Bool, true, false, _&&_}
-use mathlib.Core.List.{List, [], _∷_, map, List·Memᴰ, List·Memᴰ·head, List·Memᴰ·tail}
-use Prim.Native.Nat.{ℕ, zero, suc, _+_, _*_, _≤_, _<_, max}
+use mathlib.Core.List.{List, [], _∷_, List·Memᴰ, List·Memᴰ·head, List·Memᴰ·tail}
+use Prim.Native.Nat.{ℕ, zero, suc, _+_, _-_, _≤_, _<_, max}
 use native.Mathlib.Nat.{le-refl, le-trans}
 use native.Mathlib.Omega.{arith}
 use native.Mathlib.Decide.{decLt}
 use lib.Dec.{eqb}
-use lib.ListN.{length, getD, length-map, length-replicate, List·getD-eq-default}
+use lib.ListN.{getD}
 use borrow.Author.Tests.{eqb-true, eq-eqb, ne-eqb}
 use Rattle.model.specs.declared.Delay.{Delay}
-use Rattle.model.specs.Common.{if_then_else_, count}
-use Rattle.model.specs.Starts.{plus, raised, rounds, firstStarts}
-use Rattle.model.proofs.ListLaws.{count-length}
-use Rattle.model.proofs.SeqLaws.{listed-at, blanks-at}
+use Rattle.model.specs.Common.{if_then_else_}
+use Rattle.model.specs.Starts.{plus, raised}
 use Rattle.model.proofs.StartsLaws.{raised-old}
-use Rattle.starts.specs.Code.{coded, Limited, Fits}
+use Rattle.model.proofs.BoundLaws.{Slow}
+use Rattle.weights.specs.Code.{coded, Fits}
 use Rattle.starts.specs.Rounds.{sumAt, largest, startOf}
-use Rattle.starts.proofs.CodeLaws.{plus-coded, coded-most}
+use Rattle.weights.proofs.CodeLaws.{plus-coded}
 use Rattle.starts.proofs.RoundLaws.{largest-first}
-use Rattle.starts.proofs.PlaceLaws.{codeAt, kept, code-cons}
+use Rattle.starts.proofs.PlaceLaws.{codeAt, kept}
 
 -- ---- the largest of a column
 
@@ -39,22 +38,20 @@ largest-below table old j first zero x h f = h
 largest-below table old j first (suc k) x h f =
     omega (arith, f k (omega arith), largest-below table old j first k x h (λ i p. f i (omega arith)))
 
--- ---- the definition's raised start, over starts below 30,000
+-- ---- the definition's raised start, over starts of at most 63,535
 
-module _ (n : ℕ) (old : List ℕ) (low : (i : ℕ) → getD old i 0 < 30000) (j : ℕ) where
-  -- no place asks for more: an empty one adds less than 30,000
-  place-below : (qs : List Delay) → ((q : Delay) → List·Memᴰ q qs → Fits n q) → (i : ℕ) → getD old i 0 + codeAt qs i j ≤ raised qs old j + 30000
-  unfolding raised if_then_else_ kept codeAt Rattle.model.specs.Starts.entry Rattle.starts.specs.Code.placeCode
+module _ (n : ℕ) (old : List ℕ) (low : (i : ℕ) → getD old i 0 ≤ 63535) (j : ℕ) where
+  -- no place asks for more: the sum of an empty one is 0
+  place-below : (qs : List Delay) → ((q : Delay) → List·Memᴰ q qs → Fits n q) → (i : ℕ) → getD old i 0 + 2000 - codeAt qs i j ≤ raised qs old j + 1000
+  unfolding raised if_then_else_ kept codeAt
   place-below [] f i = omega (arith, low i)
-  place-below (q ∷ qs) f i =
-      rw (code-cons q qs i j)
-      (go (eqb (q .from) i) refl (eqb (q .to) j) (place-below qs (λ p m. f p (List·Memᴰ·tail m)) i))
+  place-below (q ∷ qs) f i = go (eqb (q .from) i) refl (eqb (q .to) j) (place-below qs (λ p m. f p (List·Memᴰ·tail m)) i)
     where
       sum : ℕ
       sum = plus (getD old (q .from) 0) (q .weight)
 
-      go : (a : Bool) → eqb (q .from) i ≡ a → (b : Bool) → getD old i 0 + codeAt qs i j ≤ raised qs old j + 30000
-          → getD old i 0 + kept (a && b) (coded (q .weight)) (codeAt qs i j) ≤ (if b then max sum (raised qs old j) else raised qs old j) + 30000
+      go : (a : Bool) → eqb (q .from) i ≡ a → (b : Bool) → getD old i 0 + 2000 - codeAt qs i j ≤ raised qs old j + 1000
+          → getD old i 0 + 2000 - kept (a && b) (coded (q .weight)) (codeAt qs i j) ≤ (if b then max sum (raised qs old j) else raised qs old j) + 1000
       go true e true h =
           let g : getD old (q .from) 0 ≡ getD old i 0 = ap (λ (x : ℕ). getD old x 0) (eqb-true (q .from) i e) in
           omega (arith, plus-coded (getD old (q .from) 0) (q .weight) (f q (List·Memᴰ·head refl) .weight))
@@ -63,8 +60,8 @@ module _ (n : ℕ) (old : List ℕ) (low : (i : ℕ) → getD old i 0 < 30000) (
       go false e false h = h
 
   -- and what the inequalities ask, some place asks
-  raised-below : (qs : List Delay) → ((q : Delay) → List·Memᴰ q qs → Fits n q) → (x : ℕ) → getD old j 0 + 30000 ≤ x → ((i : ℕ) → i < n → getD old i 0 + codeAt qs i j ≤ x) → raised qs old j + 30000 ≤ x
-  unfolding raised if_then_else_ kept
+  raised-below : (qs : List Delay) → ((q : Delay) → List·Memᴰ q qs → Fits n q) → (x : ℕ) → getD old j 0 + 1000 ≤ x → ((i : ℕ) → i < n → getD old i 0 + 2000 - codeAt qs i j ≤ x) → raised qs old j + 1000 ≤ x
+  unfolding raised if_then_else_ kept codeAt
   raised-below [] f x h g = h
   raised-below (q ∷ qs) f x h g =
       go (eqb (q .to) j) refl (raised-below qs (λ p m. f p (List·Memᴰ·tail m)) x h (λ i p. le-trans (more i) (g i p)))
@@ -72,17 +69,17 @@ module _ (n : ℕ) (old : List ℕ) (low : (i : ℕ) → getD old i 0 < 30000) (
       sum : ℕ
       sum = plus (getD old (q .from) 0) (q .weight)
 
-      larger : (b : Bool) (y z : ℕ) → z ≤ kept b y z
-      larger true y z = omega arith
-      larger false y z = le-refl z
+      smaller : (b : Bool) (y z : ℕ) → kept b y z ≤ z
+      smaller true y z = omega arith
+      smaller false y z = le-refl z
 
-      more : (i : ℕ) → getD old i 0 + codeAt qs i j ≤ getD old i 0 + codeAt (q ∷ qs) i j
-      more i = rw (code-cons q qs i j) (omega (arith, larger (eqb (q .from) i && eqb (q .to) j) (coded (q .weight)) (codeAt qs i j)))
+      more : (i : ℕ) → getD old i 0 + 2000 - codeAt qs i j ≤ getD old i 0 + 2000 - codeAt (q ∷ qs) i j
+      more i = omega (arith, smaller (eqb (q .from) i && eqb (q .to) j) (coded (q .weight)) (codeAt qs i j))
 
-      own : eqb (q .to) j ≡ true → coded (q .weight) ≤ codeAt (q ∷ qs) (q .from) j
-      own e = rw (code-cons q qs (q .from) j, eq-eqb (q .from) (q .from) refl, e) (omega arith)
+      own : eqb (q .to) j ≡ true → codeAt (q ∷ qs) (q .from) j ≤ coded (q .weight)
+      own e = rw (eq-eqb (q .from) (q .from) refl, e) (omega arith)
 
-      go : (b : Bool) → eqb (q .to) j ≡ b → raised qs old j + 30000 ≤ x → (if b then max sum (raised qs old j) else raised qs old j) + 30000 ≤ x
+      go : (b : Bool) → eqb (q .to) j ≡ b → raised qs old j + 1000 ≤ x → (if b then max sum (raised qs old j) else raised qs old j) + 1000 ≤ x
       go false e r = r
       go true e r =
           let fit : Fits n q = f q (List·Memᴰ·head refl) in
@@ -93,12 +90,12 @@ module _ (n : ℕ) (old : List ℕ) (low : (i : ℕ) → getD old i 0 < 30000) (
       → startOf table old j k ≡ raised qs old j
   unfolding startOf sumAt
   start-raised qs f table k b e =
-      let up : largest table old j (getD old j 0 + 30000) k ≤ raised qs old j + 30000 =
-      largest-below table old j (getD old j 0 + 30000) k (raised qs old j + 30000) (omega (arith, raised-old qs old j))
+      let up : largest table old j (getD old j 0 + 1000) k ≤ raised qs old j + 1000 =
+      largest-below table old j (getD old j 0 + 1000) k (raised qs old j + 1000) (omega (arith, raised-old qs old j))
       (λ i p. omega (arith, place-below qs f i, e i p)) in
-      let down : raised qs old j + 30000 ≤ largest table old j (getD old j 0 + 30000) k =
-      raised-below qs f (largest table old j (getD old j 0 + 30000) k) (largest-first table old j (getD old j 0 + 30000) k)
-      (λ i p. omega (arith, largest-at table old j (getD old j 0 + 30000) k i (omega arith), e i (omega arith))) in
+      let down : raised qs old j + 1000 ≤ largest table old j (getD old j 0 + 1000) k =
+      raised-below qs f (largest table old j (getD old j 0 + 1000) k) (largest-first table old j (getD old j 0 + 1000) k)
+      (λ i p. omega (arith, largest-at table old j (getD old j 0 + 1000) k i (omega arith), e i (omega arith))) in
       omega arith
 
 -- no inequality ends past n
@@ -116,39 +113,7 @@ raised-cong (q ∷ qs) a b h j = rw (h (q .from), raised-cong qs a b h j)
 
 -- ---- bounds
 
-plus-bound : (t : ℕ) (w : _) → Limited w → plus t w ≤ t + 1000
-plus-bound t w h = omega (arith, plus-coded t w h, coded-most w h)
-
--- a round raises a start by at most 1,000
-pub raised-bound : (n : ℕ) (qs : List Delay) → ((q : Delay) → List·Memᴰ q qs → Fits n q) → (old : List ℕ) (b : ℕ) → ((i : ℕ) → getD old i 0 ≤ b) → (j : ℕ) → raised qs old j ≤ b + 1000
-unfolding raised if_then_else_
-raised-bound n [] f old b h j = omega (arith, h j)
-raised-bound n (q ∷ qs) f old b h j = go (eqb (q .to) j) (raised-bound n qs (λ p m. f p (List·Memᴰ·tail m)) old b h j)
-  where
-    go : (c : Bool) → raised qs old j ≤ b + 1000 → (if c then max (plus (getD old (q .from) 0) (q .weight)) (raised qs old j) else raised qs old j) ≤ b + 1000
-    go true r = omega (arith, plus-bound (getD old (q .from) 0) (q .weight) (f q (List·Memᴰ·head refl) .weight), h (q .from))
-    go false r = r
-
-module _ (n : ℕ) (qs : List Delay) where
-  pub rounds-length : (k : ℕ) → length (rounds qs (firstStarts n) k) ≡ n
-  unfolding rounds firstStarts
-  rounds-length zero = length-replicate n 0
-  rounds-length (suc k) =
-      length-map (count 0 (length (firstStarts n))) (raised qs (rounds qs (firstStarts n) k)) ∙ count-length 0 (length (firstStarts n)) ∙ length-replicate n 0
-
-  -- one round more, start by start
-  pub rounds-more : (k : ℕ) → rounds qs (firstStarts n) (suc k) ≡ map (raised qs (rounds qs (firstStarts n) k)) (count 0 n)
-  unfolding rounds firstStarts
-  rounds-more k = ap (λ (m : ℕ). map (raised qs (rounds qs (firstStarts n) k)) (count 0 m)) (length-replicate n 0)
-
-  -- after k rounds no start is above 1,000 * k
-  pub rounds-bound : ((q : Delay) → List·Memᴰ q qs → Fits n q) → (k j : ℕ) → getD (rounds qs (firstStarts n) k) j 0 ≤ 1000 * k
-  unfolding rounds firstStarts
-  rounds-bound f zero j = omega (arith, blanks-at {A = ℕ} n j 0)
-  rounds-bound f (suc k) j = go (decLt j n) (rounds-bound f k)
-    where
-      go : Dec (j < n) → ((i : ℕ) → getD (rounds qs (firstStarts n) k) i 0 ≤ 1000 * k) → getD (rounds qs (firstStarts n) (suc k)) j 0 ≤ 1000 * suc k
-      go (yes p) rec =
-          rw (rounds-more k, listed-at (raised qs (rounds qs (firstStarts n) k)) 0 n j p)
-          (omega (arith, raised-bound n qs f (rounds qs (firstStarts n) k) (1000 * k) rec j))
-      go (no p) rec = rw (List·getD-eq-default (rounds qs (firstStarts n) (suc k)) 0 {n = j} (omega (arith, rounds-length (suc k)))) (omega arith)
+-- no inequality raises a start by more than 1,000
+pub fits-slow : (n : ℕ) (q : Delay) → Fits n q → Slow q
+unfolding Slow
+fits-slow n q f t = omega (arith, plus-coded t (q .weight) (f .weight))

@@ -13,10 +13,11 @@ use lib.ListN.{getD, length, List·getD-eq-default}
 use borrow.Author.Tests.{eqb-true, eq-eqb, le-leb, lt-leb}
 use Rattle.model.specs.Common.{if_then_else_}
 use Rattle.model.proofs.BoolLaws.{both, and-false}
-use Rattle.starts.specs.Rounds.{Small, SmallRows, Lifted, sumAt, largest, startOf, roundOf, raisedTo, liftedOf, loweredOf, fourRaised, sameTo, Reached, roundsOf}
-use Rattle.starts.specs.Latency.{latencyOf, raisedBy}
-use Rattle.starts.proofs.LatencyLaws.{latency-mono, latency-at}
-use Rattle.starts.proofs.FillLaws.{filled-length, filled-at, filled-cong, filled-small}
+use Rattle.times.specs.Fill.{Small}
+use Rattle.starts.specs.Rounds.{Lifted, sumAt, largest, startOf, roundOf, raisedTo, liftedOf, loweredOf, fourRaised, sameTo, Reached, roundsOf}
+use Rattle.times.specs.Latency.{latencyOf, raisedBy}
+use Rattle.times.proofs.LatencyLaws.{latency-mono, latency-at}
+use Rattle.times.proofs.FillLaws.{filled-length, filled-at, filled-cong, filled-small}
 
 -- ---- one start
 
@@ -25,17 +26,16 @@ unfolding largest
 largest-first table old j first zero = omega arith
 largest-first table old j first (suc k) = omega (arith, largest-first table old j first k)
 
-largest-small : (table : List (List ℕ)) (old : List ℕ) (j first b k : ℕ) → SmallRows table → Small old b → first ≤ b + 31000 → largest table old j first k ≤ b + 31000
+largest-small : (table : List (List ℕ)) (old : List ℕ) (j first b k : ℕ) → Small old b → first ≤ b + 2000 → largest table old j first k ≤ b + 2000
 unfolding largest sumAt
-largest-small table old j first b zero p q h = h
-largest-small table old j first b (suc k) p q h =
-    omega (arith, largest-small table old j first b k p q h, p .row k .each j, q .each k)
+largest-small table old j first b zero q h = h
+largest-small table old j first b (suc k) q h = omega (arith, largest-small table old j first b k q h, q .each k)
 
--- a round raises a start by at most 1,000
-start-small : (table : List (List ℕ)) (old : List ℕ) (j k b : ℕ) → SmallRows table → Small old b → startOf table old j k ≤ b + 1000
+-- a round raises a start by at most 1,000, whatever the table holds
+start-small : (table : List (List ℕ)) (old : List ℕ) (j k b : ℕ) → Small old b → startOf table old j k ≤ b + 1000
 unfolding startOf
-start-small table old j k b p q =
-    omega (arith, largest-small table old j (getD old j 0 + 30000) b k p q (omega (arith, q .each j)))
+start-small table old j k b q =
+    omega (arith, largest-small table old j (getD old j 0 + 1000) b k q (omega (arith, q .each j)))
 
 -- ---- one round
 
@@ -59,7 +59,7 @@ module _ (table : List (List ℕ)) (old : List ℕ) where
   pub raised-more : (q i : ℕ) (new more : List ℕ) → new ≡ raisedTo table old (4 * q) → i ≡ 4 * q → more ≡ fourRaised table old i new → more ≡ raisedTo table old (4 * (q + 1))
   unfolding raisedTo fourRaised largest
   raised-more q i new more e p g =
-      g ∙ filled-cong _ (λ j. largest table old j (getD old j 0 + 30000) (4 * (q + 1))) 24 24 (λ j h. place j (ap (λ (l : List ℕ). getD l j 0) e ∙ filled-at (λ j. largest table old j (getD old j 0 + 30000) (4 * q)) 24 24 j (omega arith) h))
+      g ∙ filled-cong _ (λ j. largest table old j (getD old j 0 + 1000) (4 * (q + 1))) 24 24 (λ j h. place j (ap (λ (l : List ℕ). getD l j 0) e ∙ filled-at (λ j. largest table old j (getD old j 0 + 1000) (4 * q)) 24 24 j (omega arith) h))
     where
       last : 4 * (q + 1) ≡ suc (suc (suc (suc i)))
       last = omega arith
@@ -73,10 +73,10 @@ module _ (table : List (List ℕ)) (old : List ℕ) where
       three : i + 3 ≡ suc (suc (suc i))
       three = omega arith
 
-      place : (j : ℕ) → getD new j 0 ≡ largest table old j (getD old j 0 + 30000) (4 * q)
+      place : (j : ℕ) → getD new j 0 ≡ largest table old j (getD old j 0 + 1000) (4 * q)
           → max (getD new j 0) (max (max (sumAt table old j i) (sumAt table old j (i + 1))) (max (sumAt table old j (i + 2)) (sumAt table old j (i + 3))))
-          ≡ largest table old j (getD old j 0 + 30000) (4 * (q + 1))
-      place j h = rw (last, one, two, three, h ∙ ap (largest table old j (getD old j 0 + 30000)) (sym p)) (max-four _ _ _ _ _)
+          ≡ largest table old j (getD old j 0 + 1000) (4 * (q + 1))
+      place j h = rw (last, one, two, three, h ∙ ap (largest table old j (getD old j 0 + 1000)) (sym p)) (max-four _ _ _ _ _)
 
   pub raised-lifted : (k : ℕ) (new : List ℕ) → new ≡ raisedTo table old k → Lifted new
   unfolding raisedTo
@@ -84,18 +84,18 @@ module _ (table : List (List ℕ)) (old : List ℕ) where
       record {
         each = λ j h.
             omega
-            (arith, ap (λ (l : List ℕ). getD l j 0) e ∙ filled-at (λ j. largest table old j (getD old j 0 + 30000) k) 24 24 j (omega arith) h, largest-first table old j (getD old j 0 + 30000) k);
+            (arith, ap (λ (l : List ℕ). getD l j 0) e ∙ filled-at (λ j. largest table old j (getD old j 0 + 1000) k) 24 24 j (omega arith) h, largest-first table old j (getD old j 0 + 1000) k);
       }
 
   pub round-is : (k : ℕ) (new starts : List ℕ) → new ≡ raisedTo table old k → starts ≡ loweredOf new → starts ≡ roundOf table old k
   unfolding raisedTo loweredOf roundOf startOf
   round-is k new starts e g =
       g ∙ filled-cong _ (λ j. startOf table old j k) 24 24
-      (λ j h. ap (λ (x : ℕ). x - 30000) (ap (λ (l : List ℕ). getD l j 0) e ∙ filled-at (λ j. largest table old j (getD old j 0 + 30000) k) 24 24 j (omega arith) h))
+      (λ j h. ap (λ (x : ℕ). x - 1000) (ap (λ (l : List ℕ). getD l j 0) e ∙ filled-at (λ j. largest table old j (getD old j 0 + 1000) k) 24 24 j (omega arith) h))
 
-  pub round-small : (k b : ℕ) → SmallRows table → Small old b → Small (roundOf table old k) (b + 1000)
+  pub round-small : (k b : ℕ) → Small old b → Small (roundOf table old k) (b + 1000)
   unfolding roundOf
-  round-small k b p q = filled-small (λ j. startOf table old j k) 24 (b + 1000) (λ j. start-small table old j k b p q) 24
+  round-small k b q = filled-small (λ j. startOf table old j k) 24 (b + 1000) (λ j. start-small table old j k b q) 24
 
 -- ---- whether a round changed something
 
@@ -138,13 +138,13 @@ pub latency-rises : (table : List (List ℕ)) (stays old : List ℕ) (k : ℕ) �
 unfolding roundOf startOf
 latency-rises table stays old k =
     latency-mono stays old _ 24
-    (λ j h. omega (arith, filled-at (λ j. largest table old j (getD old j 0 + 30000) k - 30000) 24 24 j (omega arith) h, largest-first table old j (getD old j 0 + 30000) k))
+    (λ j h. omega (arith, filled-at (λ j. largest table old j (getD old j 0 + 1000) k - 1000) 24 24 j (omega arith) h, largest-first table old j (getD old j 0 + 1000) k))
 
 -- starts whose latency is below a bound are small
-pub below-small : (stays starts : List ℕ) (latency bound : ℕ) → length starts ≡ 24 → latency ≡ latencyOf stays starts 24 → latency < bound → bound ≤ 23017 → Small starts 23016
+pub below-small : (stays starts : List ℕ) (latency bound : ℕ) → length starts ≡ 24 → latency ≡ latencyOf stays starts 24 → latency < bound → bound ≤ 43017 → Small starts 43016
 below-small stays starts latency bound len l h b = record { each = λ i. go i (decLt i 24) }
   where
-    go : (i : ℕ) → Dec (i < 24) → getD starts i 0 ≤ 23016
+    go : (i : ℕ) → Dec (i < 24) → getD starts i 0 ≤ 43016
     go i (yes p) = omega (arith, latency-at stays starts 24 i p)
     go i (no p) = omega (arith, List·getD-eq-default starts 0 {n = i} (omega arith))
 
@@ -155,8 +155,8 @@ module _ (table : List (List ℕ)) (fours : ℕ) where
     unfolding roundOf
     next-long = rw e (filled-length (λ j. startOf table old j (4 * fours)) 24 24)
 
-    pub next-small : SmallRows table → Small old 23016 → Small new 24016
-    next-small p q = rw e (round-small table old (4 * fours) 23016 p q)
+    pub next-small : Small old 43016 → Small new 44016
+    next-small q = rw e (round-small table old (4 * fours) 43016 q)
 
     pub next-latency : (stays : List ℕ) (latency risen : ℕ) → latency ≡ latencyOf stays old 24 → risen ≡ raisedBy stays new latency → risen ≡ latencyOf stays new 24
     unfolding raisedBy

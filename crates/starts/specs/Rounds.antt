@@ -2,56 +2,44 @@
 use Prim.Native.Nat.{ℕ, zero, suc, _+_, _*_, _-_, _≤_, _<_, max}
 use mathlib.Core.Bool.{Bool, true, false, _&&_}
 use mathlib.Core.List.{List, []}
-use lib.ListN.{getD, set, replicate}
+use lib.ListN.{getD}
 use lib.Dec.{eqb, leb}
 use Rattle.model.specs.Common.{if_then_else_}
-use Rattle.starts.specs.Latency.{raisedBy}
+use Rattle.times.specs.Fill.{filled}
+use Rattle.times.specs.Latency.{raisedBy}
 
--- every number of the list is at most the bound
-pub record Small (l : List ℕ) (bound : ℕ) : Type 0 where
-  pub each : (k : ℕ) → getD l k 0 ≤ bound
-
--- every code of every row is that of a weight of at most 1,000
-pub record SmallRows (table : List (List ℕ)) : Type 0 where
-  pub row : (j : ℕ) → Small (getD table j []) 31000
-
--- size places: f of each of the first k places, and 0 in the others
-unfoldable pub filled : (ℕ → ℕ) → ℕ → ℕ → List ℕ
-filled f size zero = replicate size 0
-filled f size (suc k) = set (filled f size k) k (f k)
-
--- old t_i + code in column j of row i
+-- old t_i + 1,000 + the weight in column j of row i, by its code; 0 for an empty place
 unfoldable pub sumAt : List (List ℕ) → List ℕ → ℕ → ℕ → ℕ
-sumAt table old j i = getD old i 0 + getD (getD table i []) j 0
+sumAt table old j i = getD old i 0 + 2000 - getD (getD table i []) j 0
 
--- the largest of first and old t_i + code over the first k rows, in column j
+-- the largest of first and these sums over the first k rows, in column j
 unfoldable pub largest : List (List ℕ) → List ℕ → ℕ → ℕ → ℕ → ℕ
 largest table old j first zero = first
 largest table old j first (suc k) = max (largest table old j first k) (sumAt table old j k)
 
 -- start j after one more round over the first k rows, by what ends in it: column j
 unfoldable pub startOf : List (List ℕ) → List ℕ → ℕ → ℕ → ℕ
-startOf table old j k = largest table old j (getD old j 0 + 30000) k - 30000
+startOf table old j k = largest table old j (getD old j 0 + 1000) k - 1000
 
 -- the starts after one more round over the first k rows
 unfoldable pub roundOf : List (List ℕ) → List ℕ → ℕ → List ℕ
 roundOf table old k = filled (λ j. startOf table old j k) 24 24
 
--- ---- the steps of a round: each start plus 30,000, four rows at a time, and back
+-- ---- the steps of a round: each start plus 1,000, four rows at a time, and back
 
 -- the largest of each column over the first k rows
 unfoldable pub raisedTo : List (List ℕ) → List ℕ → ℕ → List ℕ
-raisedTo table old k = filled (λ j. largest table old j (getD old j 0 + 30000) k) 24 24
+raisedTo table old k = filled (λ j. largest table old j (getD old j 0 + 1000) k) 24 24
 
 unfoldable pub liftedOf : List ℕ → List ℕ
-liftedOf old = filled (λ j. getD old j 0 + 30000) 24 24
+liftedOf old = filled (λ j. getD old j 0 + 1000) 24 24
 
 unfoldable pub loweredOf : List ℕ → List ℕ
-loweredOf new = filled (λ j. getD new j 0 - 30000) 24 24
+loweredOf new = filled (λ j. getD new j 0 - 1000) 24 24
 
--- no number is below 30,000
+-- no number is below 1,000
 pub record Lifted (l : List ℕ) : Type 0 where
-  pub each : (j : ℕ) → j < 24 → 30000 ≤ getD l j 0
+  pub each : (j : ℕ) → j < 24 → 1000 ≤ getD l j 0
 
 -- each place with rows i to i + 3
 unfoldable pub fourRaised : List (List ℕ) → List ℕ → ℕ → List ℕ → List ℕ

@@ -1,17 +1,23 @@
-// Whether some starts meet a batch's delays: they do exactly where the delays alone have least starts. No least start passes 23,000.
-use crate::delays::Delays;
-use crate::delays::read_delays;
+// Whether some starts meet a batch's delays and ends: they do exactly where the delays alone have least starts. No least start passes 43,000.
 use crate::rounds::rounds;
 use crate::table::put_delays;
 use model::Batch;
 use model::wide;
+use times::ends::earliest_of;
+use times::ends::in_time;
+use times::ends::latest_of;
+use times::latency::raised_latency;
+use weights::delays::Delays;
+use weights::delays::read_delays;
 ghost use mathlib.Core.Path.{_≡_};
 ghost use Rattle.model.specs.Open.{delaysMet};
-ghost use Rattle.starts.specs.Delays.{DelaysSound, delaysRead};
+ghost use Rattle.times.specs.Fill.{Small};
+ghost use Rattle.times.specs.Ends.{earliestRead};
+ghost use Rattle.weights.specs.Delays.{DelaysSound, delaysRead};
 
 // With the delays as they were read from the batch. Only whether there are least starts is asked, so no job need stay.
 pub fn read_delays_met(batch: Batch, delays: Delays) -> bool
-    requires { ⌜ DelaysSound batch ⌝ }
+    requires { ⌜ DelaysSound batch × Small (earliestRead batch) 20000 ⌝ }
     requires { ⌜ delays ≡ delaysRead batch ⌝ }
     ensures { λ r. ⌜ r ≡ delaysMet batch ⌝ }
 {
@@ -21,23 +27,25 @@ pub fn read_delays_met(batch: Batch, delays: Delays) -> bool
     let no_stays = [0u8; 24];
     let n = wide(batch.n);
     let m = wide(batch.m);
-    let mut table = [[0u16; 24]; 24];
+    let mut table = [[65535u16; 24]; 24];
     put_delays(&mut table, m, &from, &to, &code);
-    let mut starts = [0u16; 24];
-    let mut latest: u16 = 0;
-    rounds(
+    let mut starts = earliest_of(batch);
+    let mut latency = raised_latency(0, &no_stays, &starts);
+    let settled = rounds(
         &table,
         &no_stays,
         &mut starts,
-        &mut latest,
-        23017,
+        &mut latency,
+        43017,
         (n + 3) / 4,
         n,
-    )
+    );
+    let latest = latest_of(batch);
+    settled && in_time(&latest, &starts)
 }
 
 pub fn delays_met(batch: Batch) -> bool
-    requires { ⌜ DelaysSound batch ⌝ }
+    requires { ⌜ DelaysSound batch × Small (earliestRead batch) 20000 ⌝ }
     ensures { λ r. ⌜ r ≡ delaysMet batch ⌝ }
 {
     let read = read_delays(batch);

@@ -1,23 +1,25 @@
 // Rounds over the table: each start after k rounds comes from the starts after k − 1. A round takes the table four rows at a time: that is as
 // much as it takes for the compiler to work on whole rows, and rows past n are empty, so they change nothing. The latency goes along: each round
 // raises it by the new starts, and where it is at or above a bound, the rounds end.
-use crate::latency::larger;
-use crate::latency::raised_latency;
+use times::ends::less;
+use times::latency::larger;
+use times::latency::raised_latency;
 ghost use mathlib.Core.Path.{_≡_};
 ghost use Prim.Native.Nat.{_*_, _≤_, _<_};
 ghost use lib.ListN.{length};
-ghost use Rattle.starts.specs.Rounds.{Small, SmallRows, Lifted, sumAt, liftedOf, loweredOf, fourRaised, roundOf, sameTo, roundsOf};
-ghost use Rattle.starts.specs.Latency.{latencyOf};
+ghost use Rattle.times.specs.Fill.{Small};
+ghost use Rattle.starts.specs.Rounds.{Lifted, sumAt, liftedOf, loweredOf, fourRaised, roundOf, sameTo, roundsOf};
+ghost use Rattle.times.specs.Latency.{latencyOf};
 
-// Each start plus 30,000, as the table's weights are.
+// Each start plus 1,000, as the sums are.
 fn lifted(old: &[u16; 24]) -> [u16; 24]
-    requires { ⌜ Small (now old) 23016 ⌝ }
+    requires { ⌜ Small (now old) 43016 ⌝ }
     ensures { λ r. ⌜ r ≡ liftedOf (now (old .entry)) ⌝ }
 {
     let mut new = [0u16; 24];
     let mut j: usize = 0;
     while j < 24 {
-        new[j] = old[j] + 30000;
+        new[j] = old[j] + 1000;
         j = j + 1;
     }
     new
@@ -31,27 +33,25 @@ fn lowered(new: &[u16; 24]) -> [u16; 24]
     let mut starts = [0u16; 24];
     let mut j: usize = 0;
     while j < 24 {
-        starts[j] = new[j] - 30000;
+        starts[j] = new[j] - 1000;
         j = j + 1;
     }
     starts
 }
 
-// Old t_i plus the code in column j of row i. That of an empty place is below 30,000, since every start is.
+// Old t_i plus 1,000 plus the weight in column j of row i; 0 for an empty place, since t_i + 2,000 is at most 65,535.
 fn sum(table: &[[u16; 24]; 24], old: &[u16; 24], i: usize, j: usize) -> u16
     requires { ⌜ (i < 24) × (j < 24) ⌝ }
-    requires { ⌜ SmallRows (now table) ⌝ }
-    requires { ⌜ Small (now old) 23016 ⌝ }
+    requires { ⌜ Small (now old) 43016 ⌝ }
     ensures { λ r. ⌜ r ≡ sumAt (now (table .entry)) (now (old .entry)) j i ⌝ }
 {
-    old[i] + table[i][j]
+    less(old[i] + 2000, table[i][j])
 }
 
-// Rows i to i + 3: each place keeps the largest of what it has and old t plus code in these rows.
+// Rows i to i + 3: each place keeps the largest of what it has and the sums of these rows.
 fn raised(new: [u16; 24], table: &[[u16; 24]; 24], old: &[u16; 24], i: usize) -> [u16; 24]
     requires { ⌜ i ≤ 20 ⌝ }
-    requires { ⌜ SmallRows (now table) ⌝ }
-    requires { ⌜ Small (now old) 23016 ⌝ }
+    requires { ⌜ Small (now old) 43016 ⌝ }
     ensures { λ r. ⌜ r ≡ fourRaised (now (table .entry)) (now (old .entry)) i new ⌝ }
 {
     let mut more = [0u16; 24];
@@ -68,8 +68,7 @@ fn raised(new: [u16; 24], table: &[[u16; 24]; 24], old: &[u16; 24], i: usize) ->
 // The starts after one more round over the first 4 * fours rows.
 fn round(table: &[[u16; 24]; 24], old: [u16; 24], fours: usize) -> [u16; 24]
     requires { ⌜ fours ≤ 6 ⌝ }
-    requires { ⌜ SmallRows (now table) ⌝ }
-    requires { ⌜ Small old 23016 ⌝ }
+    requires { ⌜ Small old 43016 ⌝ }
     ensures { λ r. ⌜ r ≡ roundOf (now (table .entry)) old (4 * fours) ⌝ }
 {
     let mut new = lifted(&old);
@@ -95,7 +94,7 @@ fn same(a: &[u16; 24], b: &[u16; 24]) -> bool
 }
 
 // k rounds more: starts and latency are raised in place, together, and whether the last round changed nothing is returned. A round that changes
-// nothing ends them, since no later one would change anything; so does a latency at or above the bound. While they go on, no start is above 23,016.
+// nothing ends them, since no later one would change anything; so does a latency at or above the bound. While they go on, no start is above 43,016.
 pub fn rounds(
     table: &[[u16; 24]; 24],
     stays: &[u8; 24],
@@ -106,9 +105,9 @@ pub fn rounds(
     k: usize,
 ) -> bool
     requires { ⌜ fours ≤ 6 ⌝ }
-    requires { ⌜ SmallRows (now table) × Small (now stays) 16 ⌝ }
+    requires { ⌜ Small (now stays) 16 ⌝ }
     requires { ⌜ length (now starts) ≡ 24 ⌝ }
-    requires { ⌜ (now latency ≡ latencyOf (now stays) (now starts) 24) × ((now latency < bound) × (bound ≤ 23017)) ⌝ }
+    requires { ⌜ (now latency ≡ latencyOf (now stays) (now starts) 24) × ((now latency < bound) × (bound ≤ 43017)) ⌝ }
     ensures { λ r. ⌜ record { starts = now (starts .exit); latency = now (latency .exit); found = r } ≡ roundsOf (now (table .entry)) (now (stays .entry)) fours bound (now (starts .entry)) (now (latency .entry)) k ⌝ }
 {
     if k == 0 {

@@ -1,16 +1,16 @@
 // The working table: 24 rows of 24 weights, each place empty or the largest weight for that pair. Row i has what starts in job i. Delays and turns
-// come as three parallel arrays: from, to, and the weight plus 30,000.
+// come as three parallel arrays: from, to, and the weight's code, 1,000 less the weight. An empty place holds 65,535.
 use model::wide;
 ghost use mathlib.Core.Path.{_≡_};
 ghost use Prim.Native.Nat.{_≤_, _<_};
 ghost use Rattle.starts.specs.Table.{putIn, storeIn, withPut, withStored, Placed};
 
-// A place keeps the larger of what it has and a weight's code.
+// A place keeps the smaller of what it has and a weight's code: the larger weight.
 fn put(table: &mut [[u16; 24]; 24], from: usize, to: usize, code: u16)
     requires { ⌜ (from < 24) × (to < 24) ⌝ }
     ensures { λ _. ⌜ now (table .exit) ≡ putIn (now (table .entry)) from to code ⌝ }
 {
-    if table[from][to] < code {
+    if code < table[from][to] {
         table[from][to] = code;
     }
 }
@@ -32,7 +32,7 @@ pub fn put_delays(
     code: &[u16; 128],
 )
     requires { ⌜ m ≤ 128 ⌝ }
-    requires { ⌜ Placed (now from) (now to) (now code) m ⌝ }
+    requires { ⌜ Placed (now from) (now to) m ⌝ }
     ensures { λ _. ⌜ now (table .exit) ≡ withPut (now (from .entry)) (now (to .entry)) (now (code .entry)) (now (table .entry)) m ⌝ }
 {
     let mut k: usize = 0;
@@ -51,7 +51,7 @@ pub fn put_turns(
     code: &[u16; 1024],
 )
     requires { ⌜ depth ≤ 1024 ⌝ }
-    requires { ⌜ Placed (now from) (now to) (now code) depth ⌝ }
+    requires { ⌜ Placed (now from) (now to) depth ⌝ }
     ensures { λ _. ⌜ now (table .exit) ≡ withPut (now (from .entry)) (now (to .entry)) (now (code .entry)) (now (table .entry)) depth ⌝ }
 {
     let mut k: usize = 0;
@@ -61,7 +61,7 @@ pub fn put_turns(
     }
 }
 
-// The first m delays, each place getting the last: without a comparison, for delays that have the largest code of their pair.
+// The first m delays, each place getting the last: without a comparison, for delays that have the smallest code of their pair.
 pub fn store_delays(
     table: &mut [[u16; 24]; 24],
     m: usize,
@@ -70,7 +70,7 @@ pub fn store_delays(
     code: &[u16; 128],
 )
     requires { ⌜ m ≤ 128 ⌝ }
-    requires { ⌜ Placed (now from) (now to) (now code) m ⌝ }
+    requires { ⌜ Placed (now from) (now to) m ⌝ }
     ensures { λ _. ⌜ now (table .exit) ≡ withStored (now (from .entry)) (now (to .entry)) (now (code .entry)) (now (table .entry)) m ⌝ }
 {
     let mut k: usize = 0;

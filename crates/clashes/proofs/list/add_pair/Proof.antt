@@ -18,11 +18,11 @@ Inv-loop codes₀ count base p q masks others end at₀ k₀ codes at k =
 abbrev μ-loop : tie.MeasureT-loop
 μ-loop codes₀ count base p q masks others end at₀ k₀ codes at k = end - k
 
-wide-requires : tie.Need-wide-requires Inv-loop μ-loop
-wide-requires c κs = search needs
+wide16-requires : tie.Need-wide16-requires Inv-loop μ-loop
+wide16-requires c κs = search needs
 
-wide-requires-2 : tie.Need-wide-requires-2 Inv-loop μ-loop
-wide-requires-2 c κs = search needs
+wide16-requires-2 : tie.Need-wide16-requires-2 Inv-loop μ-loop
+wide16-requires-2 c κs = search needs
 
 add-end : tie.Need-add-end Inv-loop μ-loop
 add-end c = search needs
@@ -66,7 +66,7 @@ loop-again c =
 returns : tie.Need-returns Inv-loop μ-loop
 returns c =
     let i = c .before .loop .inv .1 in
-    pair-jobs _ _ _ _ _ _ _ (c .before .before .before .before .before .wide .ensures .0) (c .before .before .before .before .wide2 .ensures .0) (pair-last _ _ _ _ _ _ (i .1) (omega (arith, i .0, c .loop-test .left)))
+    pair-jobs _ _ _ _ _ _ _ (c .before .before .before .before .before .wide16 .ensures .0) (c .before .before .before .before .wide162 .ensures .0) (pair-last _ _ _ _ _ _ (i .1) (omega (arith, i .0, c .loop-test .left)))
 
 pub add-pair-spec : {M : Type 1} → statement M
 add-pair-spec =
@@ -74,8 +74,8 @@ add-pair-spec =
     (tie.spec
     Inv-loop
     μ-loop
-    wide-requires
-    wide-requires-2
+    wide16-requires
+    wide16-requires-2
     add-end
     sub-k
     loop-holds

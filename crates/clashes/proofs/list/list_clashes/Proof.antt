@@ -30,7 +30,7 @@ list-clashes-spec =
     tie.close
     (tie.spec Inv-loop2 μ-loop2 Inv-loop μ-loop
     (λ c κs. search needs)
-    (λ c. (search needs, (simp length-map at (c .before .good .0 .1 .1 .1 .1 .0 .1 .0 .1), grow-none _ _ _ _ _ _ (search needs) (search needs))))
+    (λ c. (search needs, (simp length-map at (c .before .good .0 .1 .1 .1 .1 .1 .0 .1 .0 .1), grow-none _ _ _ _ _ _ (search needs) (search needs))))
     (λ c. search needs)
     (λ c. search needs)
     (λ c. search needs)

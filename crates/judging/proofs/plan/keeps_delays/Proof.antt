@@ -4,7 +4,7 @@ use mathlib.Core.Path.{_≡_, refl, _∙_}
 use native.Mathlib.Omega.{arith}
 use borrow.Author.Needs.{needs}
 use Rattle.model.proofs.AllLaws.{allFrom, all-ended}
-use Rattle.starts.proofs.SoundLaws.{sound-read}
+use Rattle.weights.proofs.SoundLaws.{sound-read}
 use Rattle.opening.proofs.WithinLaws.{within-sound}
 use Rattle.judging.proofs.PlanLaws.{keptTest, test-more, test-not, kept-jobs, kept-all}
 use Rattle.judging.proofs.plan.keeps_delays.Statement.{statement}

@@ -5,8 +5,8 @@ use mathlib.Core.Logic.{⊎-elim}
 use native.Mathlib.Omega.{arith}
 use borrow.Author.Needs.{needs}
 use Rattle.opening.proofs.WithinLaws.{within-tabled}
-use Rattle.starts.specs.Latency.{latencyOf}
-use Rattle.starts.proofs.LatencyLaws.{latency-none, latency-more, latency-law}
+use Rattle.times.specs.Latency.{latencyOf}
+use Rattle.times.proofs.LatencyLaws.{latency-none, latency-more, latency-law}
 use Rattle.judging.proofs.plan.latency_of.Statement.{statement}
 use Rattle.judging.proofs.plan.latency_of.Tie as tie
 

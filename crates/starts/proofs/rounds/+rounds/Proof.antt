@@ -1,4 +1,4 @@
--- `rounds` meets its contract, by recursion on the falling round number k. While the latency is below the bound, no start is above 23,016, so that
+-- `rounds` meets its contract, by recursion on the falling round number k. While the latency is below the bound, no start is above 43,016, so that
 -- the sums of the next round fit sixteen bits. Each call asks of the next that the latency is that of its starts.
 use native.Mathlib.Omega.{arith}
 use Rattle.starts.proofs.RoundLaws.{below-small, rounds-none, rounds-end, rounds-stop, rounds-on, next-long, next-small, next-latency}
@@ -7,7 +7,7 @@ use borrow.Fn.PlainCycle.{Measures, is, falls, and}
 use Rattle.starts.proofs.rounds.rounds.Reads as rounds
 use Rattle.starts.proofs.rounds.rounds.Kinds as rounds-kinds
 use Rattle.starts.proofs.rounds.+rounds.Lts-rounds as rounds-lts
-use Rattle.starts.proofs.latency.raised_latency.Reads as raised-latency-reads
+use Rattle.times.proofs.latency.raised_latency.Reads as raised-latency-reads
 use Rattle.starts.proofs.rounds.round.Reads as round-reads
 use Rattle.starts.proofs.rounds.same.Reads as same-reads
 use Rattle.starts.proofs.rounds.+rounds.{statement}
@@ -34,7 +34,7 @@ pub +rounds-spec : {M : Type 1} → statement M
     (λ c κs.
     let pre = c .before .before .pre .1 in
     let l = pre .1 .1 .1 in
-    (pre .0, (pre .1 .0 .0, below-small _ _ _ _ (pre .1 .1 .0) (l .0) (l .1 .0) (l .1 .1))))
+    (pre .0, below-small _ _ _ _ (pre .1 .1 .0) (l .0) (l .1 .0) (l .1 .1)))
     (λ c κs. tt)
     -- a round without change
     (λ c.
@@ -46,7 +46,7 @@ pub +rounds-spec : {M : Type 1} → statement M
     let made = c .before .before .before .before .before .before in
     let pre = made .before .before .before .pre .1 in
     let l = pre .1 .1 .1 in
-    (pre .1 .0 .1, next-small _ _ _ _ (made .round .ensures) (pre .1 .0 .0) (below-small _ _ _ _ (pre .1 .1 .0) (l .0) (l .1 .0) (l .1 .1))))
+    (pre .1 .0, next-small _ _ _ _ (made .round .ensures) (below-small _ _ _ _ (pre .1 .1 .0) (l .0) (l .1 .0) (l .1 .1))))
     -- at the bound
     (λ c.
     let changed = c .before .before .before .before in

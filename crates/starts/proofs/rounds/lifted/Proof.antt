@@ -4,13 +4,14 @@ use native.Mathlib.Omega.{arith}
 use mathlib.Core.Path.{_≡_, refl, _∙_, ap}
 use Prim.Native.Nat.{_+_, _≤_, _-_}
 use lib.ListN.{getD}
-use Rattle.starts.specs.Rounds.{filled, liftedOf}
-use Rattle.starts.proofs.FillLaws.{filled-none, filled-more}
+use Rattle.times.specs.Fill.{filled}
+use Rattle.starts.specs.Rounds.{liftedOf}
+use Rattle.times.proofs.FillLaws.{filled-none, filled-more}
 use Rattle.starts.proofs.rounds.lifted.Statement.{statement}
 use Rattle.starts.proofs.rounds.lifted.Tie as tie
 
 abbrev Inv-loop : tie.InvT-loop
-Inv-loop old new₀ j₀ new j = (j ≤ 24) × (new ≡ filled (λ k. getD old k 0 + 30000) 24 j)
+Inv-loop old new₀ j₀ new j = (j ≤ 24) × (new ≡ filled (λ k. getD old k 0 + 1000) 24 j)
 
 abbrev μ-loop : tie.MeasureT-loop
 μ-loop old new₀ j₀ new j = 24 - j

@@ -4,13 +4,14 @@ use native.Mathlib.Omega.{arith}
 use mathlib.Core.Path.{_≡_, refl, _∙_, ap}
 use Prim.Native.Nat.{_≤_, _-_}
 use lib.ListN.{getD}
-use Rattle.starts.specs.Rounds.{filled, loweredOf}
-use Rattle.starts.proofs.FillLaws.{filled-none, filled-more}
+use Rattle.times.specs.Fill.{filled}
+use Rattle.starts.specs.Rounds.{loweredOf}
+use Rattle.times.proofs.FillLaws.{filled-none, filled-more}
 use Rattle.starts.proofs.rounds.lowered.Statement.{statement}
 use Rattle.starts.proofs.rounds.lowered.Tie as tie
 
 abbrev Inv-loop : tie.InvT-loop
-Inv-loop new starts₀ j₀ starts j = (j ≤ 24) × (starts ≡ filled (λ k. getD new k 0 - 30000) 24 j)
+Inv-loop new starts₀ j₀ starts j = (j ≤ 24) × (starts ≡ filled (λ k. getD new k 0 - 1000) 24 j)
 
 abbrev μ-loop : tie.MeasureT-loop
 μ-loop new starts₀ j₀ starts j = 24 - j

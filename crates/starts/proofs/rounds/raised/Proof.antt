@@ -4,8 +4,9 @@ use native.Mathlib.Omega.{arith}
 use mathlib.Core.Path.{_≡_, _∙_, ap}
 use Prim.Native.Nat.{_+_, _≤_, _-_, max}
 use lib.ListN.{getD}
-use Rattle.starts.specs.Rounds.{filled, sumAt, fourRaised}
-use Rattle.starts.proofs.FillLaws.{filled-none, filled-more}
+use Rattle.times.specs.Fill.{filled}
+use Rattle.starts.specs.Rounds.{sumAt, fourRaised}
+use Rattle.times.proofs.FillLaws.{filled-none, filled-more}
 use Rattle.starts.proofs.RoundLaws.{four-place}
 use Rattle.starts.proofs.rounds.raised.Statement.{statement}
 use Rattle.starts.proofs.rounds.raised.Tie as tie

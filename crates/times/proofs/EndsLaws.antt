@@ -1,0 +1,103 @@
+-- The loops over the jobs' ends, and the test of starts that are in time.
+use mathlib.Core.Path.{_≡_, refl, ap, sym, _∙_}
+use mathlib.Core.Bool.{Bool, true}
+use mathlib.Core.List.{List}
+use Prim.Native.Nat.{ℕ, zero, suc, _+_, _-_, _≤_, _<_, max}
+use native.Mathlib.Omega.{arith}
+use native.Mathlib.Numerals.{add-one}
+use native.Mathlib.Decide.{decLt, ℕ-discrete}
+use lib.ListN.{length, getD, List·getD-eq-default}
+use lib.Dec.{leb, eqb}
+use borrow.Author.Tests.{leb-true, le-leb, eqb-true, eq-eqb}
+use Rattle.model.specs.declared.Window.{Window}
+use Rattle.model.specs.declared.Batch.{Batch}
+use Rattle.model.specs.Common.{all, count, pad}
+use Rattle.model.specs.Batch.{windowOf, blankWindow, earliest, latest, earliestStarts, latestStarts}
+use Rattle.model.specs.Starts.{inTime}
+use Rattle.model.proofs.BoolLaws.{same-test}
+use Rattle.model.proofs.ListLaws.{all-each, each-all, count-some, some-count}
+use Rattle.model.proofs.SeqLaws.{getD-same, pad-at}
+use Rattle.model.proofs.StartsLaws.{latest-at}
+use Rattle.times.specs.Fill.{Small, filled}
+use Rattle.times.specs.Ends.{earliestRead, latestRead, lateBy}
+use Rattle.times.proofs.FillLaws.{filled-at, filled-past, filled-is}
+
+-- ---- a job's ends, as they are read out of the array
+
+abbrev pub windowAt : Batch → ℕ → Window
+windowAt b i = getD (b .windows) i (record { lined = 0; earliest = 0; latest = 0 })
+
+pub window-told : (b : Batch) (i : ℕ) → i < length (b .windows) → windowAt b i ≡ windowOf b i
+unfolding windowOf
+window-told b i h = getD-same (b .windows) i (record { lined = 0; earliest = 0; latest = 0 }) blankWindow h
+
+pub earliest-told : (b : Batch) (i : ℕ) → i < length (b .windows) → windowAt b i .earliest ≡ earliest b i
+unfolding earliest
+earliest-told b i h = ap (λ (w : Window). w .earliest) (window-told b i h)
+
+pub latest-told : (b : Batch) (i : ℕ) → i < length (b .windows) → windowAt b i .latest ≡ latest b i
+unfolding latest
+latest-told b i h = ap (λ (w : Window). w .latest) (window-told b i h)
+
+pub earliest-read : (b : Batch) (l : List ℕ) (n i : ℕ) → n ≡ b .n → i ≤ n → n ≤ i → l ≡ filled (earliest b) 24 i → l ≡ earliestRead b
+unfolding earliestRead
+earliest-read b l n i e h g p = let s : i ≡ b .n = omega arith in rw (p, s)
+
+pub latest-read : (b : Batch) (l : List ℕ) (n i : ℕ) → n ≡ b .n → i ≤ n → n ≤ i → l ≡ filled (latest b) 24 i → l ≡ latestRead b
+unfolding latestRead
+latest-read b l n i e h g p = let s : i ≡ b .n = omega arith in rw (p, s)
+
+-- the earliest starts are those of the definition
+pub earliest-is : (b : Batch) → b .n ≤ 24 → earliestRead b ≡ pad 24 0 (earliestStarts b)
+unfolding earliestRead earliestStarts
+earliest-is b few = filled-is (earliest b) 24 (b .n) few
+
+-- ---- in time
+
+module _ (latest starts : List ℕ) where
+  pub late-none : 0 ≡ lateBy latest starts 0
+  unfolding lateBy
+  late-none = refl
+
+  pub late-more : (k v x late : ℕ) → late ≡ lateBy latest starts k → x ≡ getD starts k 0 - getD latest k 0 → v ≡ max late x → v ≡ lateBy latest starts (k + 1)
+  unfolding lateBy
+  late-more k v x late e p q = rw (q, e, p, add-one k)
+
+  -- none is late exactly when each is at or below its latest
+  late-each : (k : ℕ) → lateBy latest starts k ≡ 0 → (i : ℕ) → i < k → getD starts i 0 ≤ getD latest i 0
+  unfolding lateBy
+  late-each zero e i h = absurd (omega arith)
+  late-each (suc k) e i h = go (ℕ-discrete i k) (late-each k (omega arith) i)
+    where
+      go : Dec (i ≡ k) → (i < k → getD starts i 0 ≤ getD latest i 0) → getD starts i 0 ≤ getD latest i 0
+      go (yes z) rec = omega (arith, ap (λ (x : ℕ). getD starts x 0) z, ap (λ (x : ℕ). getD latest x 0) z)
+      go (no z) rec = rec (omega arith)
+
+  each-late : (k : ℕ) → ((i : ℕ) → i < k → getD starts i 0 ≤ getD latest i 0) → lateBy latest starts k ≡ 0
+  unfolding lateBy
+  each-late zero h = refl
+  each-late (suc k) h = omega (arith, each-late k (λ i p. h i (omega arith)), h k (omega arith))
+
+-- with a batch's latest starts it is the definition's test
+pub time-is : (b : Batch) → b .n ≤ 24 → (ts : List ℕ) → length ts ≡ b .n → eqb (lateBy (latestRead b) (pad 24 0 ts) 24) 0 ≡ inTime (latestStarts b) ts
+unfolding inTime latestRead
+time-is b few ts len = same-test _ _ there back
+  where
+    test : ℕ → Bool
+    test j = leb (getD ts j 0) (getD (latestStarts b) j 0)
+
+    at : (j : ℕ) → j < b .n → getD (filled (latest b) 24 (b .n)) j 0 ≡ getD (latestStarts b) j 0
+    at j h = filled-at (latest b) 24 (b .n) j few h ∙ sym (latest-at b j h)
+
+    there : eqb (lateBy (filled (latest b) 24 (b .n)) (pad 24 0 ts) 24) 0 ≡ true → all test (count 0 (length ts)) ≡ true
+    there e =
+        each-all test (count 0 (length ts)) (λ j m.
+        let h : j < b .n = omega (arith, count-some 0 (length ts) j m .1) in
+        le-leb (getD ts j 0) (getD (latestStarts b) j 0) (omega (arith, late-each _ (pad 24 0 ts) 24 (eqb-true _ 0 e) j (omega arith), pad-at 24 0 ts j, at j h)))
+
+    back : all test (count 0 (length ts)) ≡ true → eqb (lateBy (filled (latest b) 24 (b .n)) (pad 24 0 ts) 24) 0 ≡ true
+    back e = eq-eqb _ 0 (each-late _ (pad 24 0 ts) 24 (λ j h. go j (decLt j (b .n))))
+      where
+        go : (j : ℕ) → Dec (j < b .n) → getD (pad 24 0 ts) j 0 ≤ getD (filled (latest b) 24 (b .n)) j 0
+        go j (yes h) = omega (arith, leb-true (getD ts j 0) (getD (latestStarts b) j 0) (all-each test (count 0 (length ts)) e (some-count 0 (length ts) j (omega arith) (omega arith))), pad-at 24 0 ts j, at j h)
+        go j (no h) = omega (arith, pad-at 24 0 ts j, List·getD-eq-default ts 0 {n = j} (omega arith))
