@@ -1,23 +1,37 @@
 -- A batch that passes the tests of its limits: what they give, and so what the functions that read the batch require.
-use Prim.Native.Nat.{_≤_}
+use Prim.Native.Nat.{ℕ, _≤_, _<_}
 use mathlib.Core.Path.{_≡_}
-use mathlib.Core.Bool.{Bool, true, false, not}
+use mathlib.Core.Bool.{Bool, true, false, not, _&&_}
+use native.Mathlib.Omega.{arith}
+use native.Mathlib.Decide.{decLt}
+use lib.ListN.{getD}
 use Rattle.model.specs.declared.Batch.{Batch}
-use Rattle.model.specs.Common.{all}
-use Rattle.model.specs.Batch.{delaysOf}
+use Rattle.model.specs.Common.{all, count}
+use Rattle.model.specs.Batch.{delaysOf, earliest}
+use Rattle.model.specs.Window.{windowOk}
+use Rattle.model.specs.Sound.{soundEdition, soundFurther}
 use Rattle.model.specs.Open.{countsOk, jobsOk, weightOk}
 use Rattle.model.proofs.BoolLaws.{both, passes}
+use Rattle.model.proofs.ListLaws.{all-each, some-count}
+use Rattle.model.proofs.WindowLaws.{window-soon}
+use Rattle.times.specs.Fill.{Small, filled}
+use Rattle.times.specs.Ends.{earliestRead}
+use Rattle.times.proofs.FillLaws.{filled-at, filled-past}
 use Rattle.clashes.specs.List.{Tabled}
 use Rattle.clashes.proofs.LimitLaws.{tabled}
 use Rattle.weights.specs.declared.delays.Reading.{Reading}
 use Rattle.weights.specs.Delays.{DelaysSound, delaysPass, ReadsDelays}
-use Rattle.soundness.specs.Limits.{ticksPass, countsPass}
+use Rattle.soundness.specs.Limits.{ticksPass, countsPass, limitsPass}
 use Rattle.soundness.proofs.LimitLaws.{few-jobs, some-jobs, few-delays}
 
-module _ (b : Batch) (x : Bool) (p : x ≡ countsPass b) (e : not x ≡ false) where
+module _ (b : Batch) (x : Bool) (p : x ≡ limitsPass b) (e : not x ≡ false) where
+  limits : ((countsPass b && soundEdition b) ≡ true) × (soundFurther b ≡ true)
+  unfolding limitsPass
+  limits = both (countsPass b && soundEdition b) (soundFurther b) (passes p e)
+
   counts : (countsOk (b .n) (b .m) ≡ true) × (ticksPass b ≡ true)
   unfolding countsPass
-  counts = both (countsOk (b .n) (b .m)) (ticksPass b) (passes p e)
+  counts = both (countsOk (b .n) (b .m)) (ticksPass b) (both (countsPass b) (soundEdition b) (limits .0) .0)
 
   pub counts-jobs : b .n ≤ 24
   counts-jobs = few-jobs (b .n) (b .m) (counts .0)
@@ -28,6 +42,15 @@ module _ (b : Batch) (x : Bool) (p : x ≡ countsPass b) (e : not x ≡ false) w
   pub counts-tabled : Tabled b
   unfolding ticksPass
   counts-tabled = tabled b (counts .0) (counts .1)
+
+  -- no earliest start is above 20,000
+  pub limits-soon : Small (earliestRead b) 20000
+  unfolding earliestRead soundFurther
+  limits-soon = record { each = λ i. go i (decLt i (b .n)) }
+    where
+      go : (i : ℕ) → Dec (i < b .n) → getD (filled (earliest b) 24 (b .n)) i 0 ≤ 20000
+      go i (yes h) = omega (arith, filled-at (earliest b) 24 (b .n) i counts-jobs h, window-soon b i (all-each (windowOk b) (count 0 (b .n)) (limits .1) (some-count 0 (b .n) i (omega arith) (omega arith))))
+      go i (no h) = omega (arith, filled-past (earliest b) 24 (b .n) i (omega arith))
 
   -- the delays pass too
   pub passed-delays : (r : Reading) → ReadsDelays b r → not (r .passed) ≡ false → DelaysSound b

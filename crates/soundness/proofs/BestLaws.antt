@@ -17,19 +17,19 @@ use Rattle.model.proofs.AllLaws.{allFrom, all-start}
 
 -- the test of start i
 unfoldable pub startTest : List ℕ → ℕ → Bool
-startTest starts i = leb (start starts i) 23000
+startTest starts i = leb (start starts i) 43000
 
 pub starts-start : (starts : List ℕ) (n : ℕ) → allFrom (startTest starts) 0 n ≡ startsPass n starts
 unfolding startsPass startTest
 starts-start starts n = all-start (startTest starts) n
 
-pub start-low : (starts : List ℕ) (i : ℕ) → getD starts i 0 ≤ 23000 → startTest starts i ≡ true
+pub start-low : (starts : List ℕ) (i : ℕ) → getD starts i 0 ≤ 43000 → startTest starts i ≡ true
 unfolding startTest start
-start-low starts i h = le-leb (getD starts i 0) 23000 h
+start-low starts i h = le-leb (getD starts i 0) 43000 h
 
-pub start-high : (starts : List ℕ) (i : ℕ) → 23000 < getD starts i 0 → startTest starts i ≡ false
+pub start-high : (starts : List ℕ) (i : ℕ) → 43000 < getD starts i 0 → startTest starts i ≡ false
 unfolding startTest start
-start-high starts i h = lt-leb (getD starts i 0) 23000 h
+start-high starts i h = lt-leb (getD starts i 0) 43000 h
 
 -- ---- best
 
@@ -37,10 +37,10 @@ pub best-none : (n : ℕ) (best : Best) (starts : List ℕ) → best ≡ Nothing
 unfolding soundBest
 best-none n best starts e = rw e
 
-pub best-some : (n : ℕ) (best : Best) (starts : List ℕ) (l : ℕ) (x : Bool) → best ≡ Latency l → l ≤ 23016 → x ≡ startsPass n starts → x ≡ soundBest n best starts
+pub best-some : (n : ℕ) (best : Best) (starts : List ℕ) (l : ℕ) (x : Bool) → best ≡ Latency l → l ≤ 43016 → x ≡ startsPass n starts → x ≡ soundBest n best starts
 unfolding soundBest startsPass
-best-some n best starts l x e h p = p ∙ rw (e, le-leb l 23016 h)
+best-some n best starts l x e h p = p ∙ rw (e, le-leb l 43016 h)
 
-pub best-late : (n : ℕ) (best : Best) (starts : List ℕ) (l : ℕ) → best ≡ Latency l → 23016 < l → leb l 23016 ≡ soundBest n best starts
+pub best-late : (n : ℕ) (best : Best) (starts : List ℕ) (l : ℕ) → best ≡ Latency l → 43016 < l → leb l 43016 ≡ soundBest n best starts
 unfolding soundBest
-best-late n best starts l e h = rw (e, lt-leb l 23016 h)
+best-late n best starts l e h = rw (e, lt-leb l 43016 h)

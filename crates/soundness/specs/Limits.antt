@@ -9,6 +9,7 @@ use Rattle.model.specs.Limits.{mostStart}
 use Rattle.model.specs.Batch.{ticks}
 use Rattle.model.specs.Plan.{start}
 use Rattle.model.specs.Open.{countsOk, ticksOk}
+use Rattle.model.specs.Sound.{soundEdition, soundFurther}
 
 -- each p is within its limits
 unfoldable pub ticksPass : Batch → Bool
@@ -18,6 +19,10 @@ ticksPass b = all (λ i. ticksOk (ticks b i)) (count 0 (b .n))
 unfoldable pub countsPass : Batch → Bool
 countsPass b = countsOk (b .n) (b .m) && ticksPass b
 
--- the first n starts are at most 23,000
+-- and so are the edition and the further lines
+unfoldable pub limitsPass : Batch → Bool
+limitsPass b = countsPass b && soundEdition b && soundFurther b
+
+-- the first n starts are at most 43,000
 unfoldable pub startsPass : ℕ → List ℕ → Bool
 startsPass n starts = all (λ i. leb (start starts i) mostStart) (count 0 n)

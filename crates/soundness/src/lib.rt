@@ -1,6 +1,6 @@
-// Whether a record from anywhere is sound, and in the same pass what a run works on: the clash list, the delays and the stays as
+// Whether a record from anywhere is sound, and in the same pass what a run works on: the clash list, the delays, the stays and the ends as
 // arrays, and the path's turns as numbers. Nothing past a limit is read before the limit is known to hold.
-use crate::batch::counts_pass;
+use crate::batch::limits_pass;
 use crate::path::read_path;
 use crate::state::state_ok;
 use clashes::Clashes;
@@ -9,6 +9,8 @@ use model::Search;
 use weights::delays::Delays;
 use weights::delays::read_delays;
 use starts::met::read_delays_met;
+use times::ends::earliest_of;
+use times::ends::latest_of;
 use times::stays::stays_of;
 ghost use mathlib.Core.Path.{_≡_};
 ghost use mathlib.Core.Bool.{false};
@@ -17,8 +19,10 @@ ghost use Rattle.soundness.specs.Examined.{Examines};
 
 mod batch;
 mod best;
+mod further;
 mod path;
 mod state;
+mod window;
 
 // What a run works on, if the record is sound. Otherwise `sound` is false, and the rest means nothing. Turn k is 2 * clash + side, for k
 // below depth.
@@ -27,6 +31,8 @@ pub struct Examined {
     pub clashes: Clashes,
     pub delays: Delays,
     pub stays: [u8; 24],
+    pub earliest: [u16; 24],
+    pub latest: [u16; 24],
     pub turns: [u16; 1024],
     pub depth: usize,
 }
@@ -47,6 +53,8 @@ fn unsound() -> Examined
             code: [0u16; 128],
         },
         stays: [0u8; 24],
+        earliest: [0u16; 24],
+        latest: [0u16; 24],
         turns: [0u16; 1024],
         depth: 0,
     }
@@ -57,7 +65,7 @@ pub fn examine(search: Search) -> Examined
     ensures { λ r. ⌜ Examines search r ⌝ }
 {
     let batch = search.batch;
-    if !counts_pass(batch) {
+    if !limits_pass(batch) {
         return unsound();
     }
     let read = read_delays(batch);
@@ -81,6 +89,8 @@ pub fn examine(search: Search) -> Examined
         clashes: clashes,
         delays: delays,
         stays: stays_of(batch),
+        earliest: earliest_of(batch),
+        latest: latest_of(batch),
         turns: turns,
         depth: route.depth,
     }

@@ -1,0 +1,117 @@
+-- The edition and the further lines, as the loops over them test them.
+use Prim.Native.Nat.{ℕ, _≤_, _<_}
+use mathlib.Core.Path.{_≡_, refl, ap, ap₂, sym, _∙_}
+use mathlib.Core.Bool.{Bool, true, false, not, _&&_}
+use mathlib.Core.List.{List, [], _∷_, map}
+use lib.ListN.{length}
+use lib.Dec.{eqb}
+use borrow.Author.Tests.{eq-eqb, ne-eqb}
+use Rattle.model.specs.declared.Window.{Window}
+use Rattle.model.specs.declared.Batch.{Batch}
+use Rattle.model.specs.Common.{if_then_else_, all, count, keep, isEmpty}
+use Rattle.model.specs.Batch.{windowOf, lined, earliest, latest}
+use Rattle.model.specs.Window.{windowLine, windowLines, endsOk, windowOk}
+use Rattle.model.specs.Open.{countsOk}
+use Rattle.model.specs.Sound.{soundEdition, soundFurther}
+use Rattle.model.proofs.BoolLaws.{both, and-false, passes, fails}
+use Rattle.model.proofs.AllLaws.{allFrom, all-start}
+use Rattle.times.proofs.EndsLaws.{windowAt, window-told}
+use Rattle.soundness.specs.Limits.{ticksPass, countsPass, limitsPass}
+use Rattle.soundness.specs.Further.{endsPass, windowsPass, unlined}
+use Rattle.soundness.proofs.LimitLaws.{few-jobs}
+
+-- ---- ends
+
+-- one job's ends, read out of the array
+pub ends-told : (b : Batch) (i : ℕ) (x : Bool) → i < length (b .windows) → x ≡ endsPass (windowAt b i) → x ≡ windowOk b i
+unfolding endsPass windowOk lined earliest latest
+ends-told b i x h e = e ∙ ap endsPass (window-told b i h)
+
+pub ends-start : (b : Batch) (n : ℕ) → n ≡ b .n → allFrom (windowOk b) 0 n ≡ windowsPass b
+unfolding windowsPass
+ends-start b n e = rw e (all-start (windowOk b) (b .n))
+
+pub further-is : (b : Batch) (x : Bool) → x ≡ windowsPass b → x ≡ soundFurther b
+unfolding windowsPass soundFurther
+further-is b x e = e
+
+-- ---- the limits, one after the other
+
+module _ (b : Batch) (x : Bool) (p : x ≡ countsPass b) where
+  pub limits-counts : not x ≡ true → false ≡ limitsPass b
+  unfolding limitsPass
+  limits-counts e = ap (λ (q : Bool). q && soundEdition b && soundFurther b) (sym (fails p e))
+
+  module _ (e : not x ≡ false) where
+    -- n is within its limits
+    pub limits-jobs : b .n ≤ 24
+    unfolding countsPass
+    limits-jobs = few-jobs (b .n) (b .m) (both (countsOk (b .n) (b .m)) (ticksPass b) (passes p e) .0)
+
+    module _ (y : Bool) (q : y ≡ soundEdition b) where
+      pub limits-edition : not y ≡ true → false ≡ limitsPass b
+      unfolding limitsPass
+      limits-edition f =
+          ap (λ (r : Bool). r && soundFurther b) (sym (and-false (countsPass b))) ∙ ap (λ (r : Bool). countsPass b && r && soundFurther b) (sym (fails q f))
+
+      pub limits-further : not y ≡ false → (z : Bool) → z ≡ soundFurther b → z ≡ limitsPass b
+      unfolding limitsPass
+      limits-further f z r = r ∙ ap₂ (λ (u v : Bool). u && v && soundFurther b) (sym (passes p e)) (sym (passes q f))
+
+-- ---- the edition
+
+module _ (b : Batch) where
+  pub edition-two : b .edition ≡ 2 → true ≡ soundEdition b
+  unfolding soundEdition
+  edition-two e = rw (eq-eqb (b .edition) 2 e)
+
+  pub edition-one : (b .edition ≡ 2 → ⊥) → b .edition ≡ 1 → (x : Bool) → x ≡ unlined b → x ≡ soundEdition b
+  unfolding soundEdition unlined
+  edition-one n e x h = h ∙ rw (ne-eqb (b .edition) 2 n, eq-eqb (b .edition) 1 e)
+
+  pub edition-none : (b .edition ≡ 2 → ⊥) → (b .edition ≡ 1 → ⊥) → eqb (b .edition) 1 ≡ soundEdition b
+  unfolding soundEdition
+  edition-none n e = rw (ne-eqb (b .edition) 2 n, ne-eqb (b .edition) 1 e)
+
+-- ---- one job's ends
+
+module _ (w : Window) where
+  pub ends-lined : (w .lined ≡ 0 → ⊥) → (x : Bool) → x ≡ endsOk (w .earliest) (w .latest) → x ≡ endsPass w
+  unfolding endsPass if_then_else_
+  ends-lined n x e = e ∙ rw (ne-eqb (w .lined) 0 n)
+
+  pub ends-free : w .lined ≡ 0 → w .earliest ≡ 0 → eqb (w .latest) 65535 ≡ endsPass w
+  unfolding endsPass if_then_else_
+  ends-free e z = rw (eq-eqb (w .lined) 0 e, eq-eqb (w .earliest) 0 z)
+
+  pub ends-late : w .lined ≡ 0 → (w .earliest ≡ 0 → ⊥) → eqb (w .earliest) 0 ≡ endsPass w
+  unfolding endsPass if_then_else_
+  ends-late e z = rw (eq-eqb (w .lined) 0 e, ne-eqb (w .earliest) 0 z)
+
+-- ---- no lines
+
+-- job i has none
+unfoldable pub lineless : Batch → ℕ → Bool
+lineless b i = not (lined b i)
+
+none-kept : (b : Batch) (xs : List ℕ) → all (lineless b) xs ≡ isEmpty (map (windowLine b) (keep (lined b) xs))
+unfolding all keep if_then_else_ isEmpty lineless
+none-kept b [] = refl
+none-kept b (x ∷ xs) = go (lined b x) (none-kept b xs)
+  where
+    go : (t : Bool) → all (lineless b) xs ≡ isEmpty (map (windowLine b) (keep (lined b) xs)) → _≡_ {A = Bool} (elim (not t) [ true ↦ all (lineless b) xs | false ↦ false ]) (isEmpty (map (windowLine b) (if t then x ∷ keep (lined b) xs else keep (lined b) xs)))
+    go true rec = refl
+    go false rec = rec
+
+pub none-start : (b : Batch) (n : ℕ) → n ≡ b .n → allFrom (lineless b) 0 n ≡ unlined b
+unfolding unlined windowLines
+none-start b n e = rw e (all-start (lineless b) (b .n) ∙ none-kept b (count 0 (b .n)))
+
+-- a flag that is read out of the array
+pub line-told : (b : Batch) (i : ℕ) → i < length (b .windows) → eqb (windowAt b i .lined) 0 ≡ lineless b i
+unfolding lineless lined
+line-told b i h = ap (λ (w : Window). eqb (w .lined) 0) (window-told b i h) ∙ flip (eqb (windowOf b i .lined) 0)
+  where
+    flip : (t : Bool) → t ≡ not (not t)
+    flip true = refl
+    flip false = refl
