@@ -1,31 +1,35 @@
 -- From a sound record to the arrays that a run works on, and back to the record that its nodes reach.
-use Prim.Native.Nat.{ℕ, _≤_}
+use Prim.Native.Nat.{ℕ, _≤_, _<_}
 use mathlib.Core.Path.{_≡_, ap, sym, subst, _∙_}
 use mathlib.Core.Bool.{Bool, true, false}
 use mathlib.Core.List.{List}
 use native.Mathlib.Omega.{arith}
-use lib.ListN.{length, replicate}
+use native.Mathlib.Decide.{decLt}
+use lib.ListN.{length, getD, replicate}
 use Rattle.model.specs.declared.Batch.{Batch}
 use Rattle.model.specs.declared.Turn.{Turn}
 use Rattle.model.specs.declared.Search.{Search}
 use Rattle.model.specs.Common.{pad}
-use Rattle.model.specs.Batch.{delaysOf}
+use Rattle.model.specs.Batch.{delaysOf, earliest}
 use Rattle.model.specs.Clash.{clashes}
 use Rattle.model.specs.Search.{Place, empty, placeOf, searchOf, nodesOn, nodes}
 use Rattle.model.specs.Sound.{sound}
 use Rattle.model.proofs.LimitLaws.{counts-iff}
-use Rattle.model.proofs.SoundLaws.{record-passes, fits}
-use Rattle.times.specs.Fill.{Small}
+use Rattle.model.proofs.SoundLaws.{Passes, record-passes, fits}
+use Rattle.times.specs.Fill.{Small, filled}
+use Rattle.times.proofs.FillLaws.{filled-at, filled-past}
 use Rattle.clashes.specs.First.{Known}
 use Rattle.clashes.specs.Pairs.{Near, Paired}
 use Rattle.clashes.proofs.LimitLaws.{tabled}
 use Rattle.clashes.proofs.ListedLaws.{list-fits, list-known, list-near}
 use Rattle.weights.specs.declared.delays.Delays.{Delays}
 use Rattle.starts.specs.Table.{Placed}
-use Rattle.weights.specs.Delays.{delaysRead, heaviestOf}
+use Rattle.weights.specs.Delays.{delaysRead}
+use Rattle.starts.specs.Table.{heaviestOf}
 use Rattle.starts.proofs.HeldLaws.{held-placed}
 use Rattle.weights.proofs.SoundLaws.{delays-length, holds-read}
-use Rattle.times.specs.Latency.{longestOf}
+use Rattle.times.specs.Ends.{earliestRead}
+use Rattle.times.specs.Latency.{latencyOf, raisedBy}
 use Rattle.soundness.specs.declared.Examined.{Examined}
 use Rattle.soundness.specs.Examined.{Prepared}
 use Rattle.search.specs.declared.node.Walk.{Walk}
@@ -42,14 +46,14 @@ unfolding searchOf placeAt
 rebuilt-is b total turns walk path e = ap (λ (p : List Turn). record { batch = b; path = p; best = walk .best; starts = walk .starts; total = total; ended = walk .ended }) e
 
 -- what the pairs' largest weights are found from
-pub first-placed : (s : Search) (x : Examined) → sound s ≡ true → Prepared s x → (m : ℕ) → m ≡ s .batch .m → (m ≤ 128) × Placed (x .delays .from) (x .delays .to) (x .delays .code) m
+pub first-placed : (s : Search) (x : Examined) → sound s ≡ true → Prepared s x → (m : ℕ) → m ≡ s .batch .m → (m ≤ 128) × Placed (x .delays .from) (x .delays .to) m
 first-placed s x e p m h =
     let q = record-passes s e in
     let c = counts-iff (s .batch .n) (s .batch .m) .0 (q .counts) in
     let d = delaysRead (s .batch) in (
       omega (arith, c .1),
       rw (h, p .delays)
-          (subst (Placed (d .from) (d .to) (d .code)) (delays-length (s .batch))
+          (subst (Placed (d .from) (d .to)) (delays-length (s .batch))
           (held-placed (s .batch .n) (c .0 .1) (delaysOf (s .batch)) (d .from) (d .to) (d .code) (holds-read (s .batch) (c .1) (q .jobs-each) (q .weight-each)))),
     )
 
@@ -65,9 +69,22 @@ first-paired s x e p k h =
       (record { each = λ i l. known .each i (omega arith) }, record { each = λ i l. near .each i (omega arith) }),
     )
 
--- the stays that the longest is found from
-pub first-stays : (s : Search) (x : Examined) → sound s ≡ true → Prepared s x → Small (x .stays) 16
-first-stays s x e p = rw (p .stays) (passing-stays (s .batch) (record-passes s e))
+-- the stays and the earliest starts that their latency is found from
+pub first-times : (s : Search) (x : Examined) → sound s ≡ true → Prepared s x → Small (x .stays) 16 × Small (x .earliest) 44016
+unfolding earliestRead
+first-times s x e p =
+    let q = record-passes s e in (
+      rw (p .stays) (passing-stays (s .batch) q),
+      rw (p .earliest) (record { each = λ i. soon q i (decLt i (s .batch .n)) }),
+    )
+  where
+    soon : Passes (s .batch) → (i : ℕ) → Dec (i < s .batch .n) → getD (filled (earliest (s .batch)) 24 (s .batch .n)) i 0 ≤ 44016
+    soon q i (yes h) = omega (arith, filled-at (earliest (s .batch)) 24 (s .batch .n) i (fits (s .batch) q .jobs) h, fits (s .batch) q .soon i h)
+    soon q i (no h) = omega (arith, filled-past (earliest (s .batch)) 24 (s .batch .n) i (omega arith))
+
+pub first-latency : (stays earliest : List ℕ) (first : ℕ) → first ≡ raisedBy stays earliest 0 → first ≡ latencyOf stays earliest 24
+unfolding raisedBy
+first-latency stays earliest first e = omega (arith, e)
 
 module _ (s : Search) (x : Examined) (e : sound s ≡ true) (o : s .ended ≡ false) (p : Prepared s x) (l : length (x .turns) ≡ 1024) where
   -- where the nodes start from
@@ -90,10 +107,10 @@ module _ (s : Search) (x : Examined) (e : sound s ≡ true) (o : s .ended ≡ fa
   first-coded = turns-coded (s .batch) (x .turns) first first-path first-sound (x .clashes) (p .clashes)
 
   pub first-works : (sizes : Sizes) (code pair held end tail head gap : List ℕ) (paired : ℕ)
-      → sizes .jobs ≡ s .batch .n → sizes .delays ≡ s .batch .m → sizes .clashes ≡ x .clashes .count → sizes .longest ≡ longestOf (x .stays)
+      → sizes .jobs ≡ s .batch .n → sizes .delays ≡ s .batch .m → sizes .clashes ≡ x .clashes .count → sizes .first ≡ raisedBy (x .stays) (x .earliest) 0
       → code ≡ heaviestOf (sizes .delays) (x .delays .from) (x .delays .to) (x .delays .code)
       → paired ≤ x .clashes .count → Paired (x .clashes .codes) pair held end (sizes .pairs) paired → Steps (x .clashes .codes) (x .turns) (x .depth) tail head gap
-      → Works (s .batch) sizes (record { from = x .delays .from; to = x .delays .to; code = code; stays = x .stays; codes = x .clashes .codes; pair = pair; held = held; end = end })
+      → Works (s .batch) sizes (record { from = x .delays .from; to = x .delays .to; code = code; stays = x .stays; earliest = x .earliest; latest = x .latest; codes = x .clashes .codes; pair = pair; held = held; end = end })
       (record { turns = x .turns; tail = tail; head = head; gap = gap; rows = replicate 32 (replicate 24 0); tags = replicate 32 65535; ends = replicate 32 0 }) first
   first-works sizes code pair held end tail head gap paired a c d h k q r g =
       record {
@@ -103,7 +120,9 @@ module _ (s : Search) (x : Examined) (e : sound s ≡ true) (o : s .ended ≡ fa
         to = ap (λ (y : Delays). y .to) (p .delays);
         code = k ∙ rw (c, p .delays);
         each-stays = p .stays;
-        longest = h;
+        earliest = p .earliest;
+        latest = p .latest;
+        first = first-latency (x .stays) (x .earliest) (sizes .first) h;
         listed = rw d (p .clashes);
         paired = (paired, (omega arith, r));
         stands = record { path = first-path; steps = g; kept = kept-fresh (s .batch) (x .stays) (x .turns) (x .depth) (first-path .deep) };

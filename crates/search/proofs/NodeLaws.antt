@@ -65,7 +65,7 @@ pub returned-named : (codes turns₀ turns : List ℕ) (depth left c : ℕ) → 
 returned-named codes turns₀ turns depth left c g k h e = rw (e ∙ k .clash (left - 1) (omega arith)) (g .named (left - 1) (omega (arith, k .less)))
 
 -- the bound of best
-pub bound-none : (best : Best) → best ≡ Nothing → 23017 ≡ boundOf best
+pub bound-none : (best : Best) → best ≡ Nothing → 43017 ≡ boundOf best
 unfolding boundOf
 bound-none best e = sym (ap boundOf e)
 

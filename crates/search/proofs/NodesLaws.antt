@@ -88,7 +88,9 @@ module _ (sizes : Sizes) (kit : Kit) where
               to = w .to;
               code = w .code;
               each-stays = w .each-stays;
-              longest = w .longest;
+              earliest = w .earliest;
+              latest = w .latest;
+              first = w .first;
               listed = w .listed;
               paired = w .paired;
               stands = n .1;

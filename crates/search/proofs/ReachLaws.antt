@@ -3,10 +3,11 @@ use Prim.Native.Nat.{ℕ, _+_, _/_, _≤_, _<_}
 use mathlib.Core.Path.{_≡_, refl, ap, sym, subst, _∙_}
 use mathlib.Core.Logic.{_⊎_, inl, inr}
 use mathlib.Core.Bool.{true, false}
+use Rattle.model.proofs.BoolLaws.{both}
 use mathlib.Core.List.{List}
 use mathlib.Core.Option.{none}
 use native.Mathlib.Omega.{arith}
-use lib.ListN.{length, replicate}
+use lib.ListN.{length}
 use borrow.Author.Tests.{le-leb, lt-leb}
 use Rattle.model.specs.declared.Batch.{Batch}
 use Rattle.model.specs.declared.Delay.{Delay}
@@ -14,6 +15,7 @@ use Rattle.model.specs.declared.Turn.{Turn}
 use Rattle.model.specs.declared.Best.{Best}
 use Rattle.model.specs.declared.Best.the-variants.{Nothing, Latency}
 use Rattle.model.specs.Common.{pad}
+use Rattle.model.specs.Batch.{earliestStarts, latestStarts}
 use Rattle.model.specs.Plan.{latency}
 use Rattle.model.specs.Clash.{clashes}
 use Rattle.model.specs.Starts.{rounds, leastStarts}
@@ -22,12 +24,13 @@ use Rattle.model.proofs.SeqLaws.{pad-length}
 use Rattle.model.proofs.StartsLaws.{Inside, rounds-length}
 use Rattle.model.proofs.GoodLaws.{good-named}
 use Rattle.model.proofs.SoundLaws.{fits}
-use Rattle.model.proofs.UnderLaws.{Under, under-rounds, stopped-back, beyond-none}
+use Rattle.model.proofs.UnderLaws.{Below, under-rounds, stopped-back, beyond-none}
 use Rattle.starts.specs.Rounds.{Reached, roundsOf}
 use Rattle.weights.specs.Delays.{delaysRead}
 use Rattle.times.specs.Stays.{staysRead}
 use Rattle.times.specs.Latency.{latencyOf}
-use Rattle.starts.specs.Least.{leastOf}
+use Rattle.times.specs.Ends.{earliestRead, latestRead}
+use Rattle.starts.specs.Least.{timely, leastOf}
 use Rattle.starts.proofs.PlaceLaws.{Tabled}
 use Rattle.times.proofs.LatencyLaws.{latency-padded}
 use Rattle.weights.proofs.SoundLaws.{delays-length}
@@ -49,9 +52,9 @@ below-kept Nothing l h = refl
 below-kept (Latency k) l h = lt-leb k l h
 
 -- the same answer for the same arrays
-least-same : (tail head gap : List ℕ) (depth bound latency : ℕ) {n n′ m m′ : ℕ} {from from′ to to′ code code′ stays stays′ starts starts′ : List ℕ} → n ≡ n′ → m ≡ m′ → from ≡ from′ → to ≡ to′ → code ≡ code′ → stays ≡ stays′ → starts ≡ starts′
-    → leastOf n m from to code tail head gap depth stays bound starts latency ≡ leastOf n′ m′ from′ to′ code′ tail head gap depth stays′ bound starts′ latency
-least-same tail head gap depth bound latency a b c d e f g = rw (a, b, c, d, e, f, g)
+least-same : (tail head gap : List ℕ) (depth bound latency : ℕ) {n n′ m m′ : ℕ} {from from′ to to′ code code′ stays stays′ latest latest′ starts starts′ : List ℕ} → n ≡ n′ → m ≡ m′ → from ≡ from′ → to ≡ to′ → code ≡ code′ → stays ≡ stays′ → latest ≡ latest′ → starts ≡ starts′
+    → leastOf n m from to code tail head gap depth stays latest bound starts latency ≡ leastOf n′ m′ from′ to′ code′ tail head gap depth stays′ latest′ bound starts′ latency
+least-same tail head gap depth bound latency a b c d e f g h = rw (a, b, c, d, e, f, g, h)
 
 module _ (b : Batch) (sizes : Sizes) (kit : Kit) (t : Trail) (walk : Walk) (w : Works b sizes kit t walk) where
   abbrev ts : List Turn
@@ -74,11 +77,11 @@ module _ (b : Batch) (sizes : Sizes) (kit : Kit) (t : Trail) (walk : Walk) (w : 
   inside q m = (tabled .fits q m .from, tabled .fits q m .to)
 
   -- the node goes back where its latency comes to best's, from starts at or below every solution
-  gone : (at : List ℕ) → Under qs at → boundOf (walk .best) ≤ latency b at → next (clashes b) b (placeAt (t .turns) walk) ≡ back ts (incumbent (walk .best) (walk .starts))
+  gone : (at : List ℕ) → Below b qs at → boundOf (walk .best) ≤ latency b at → next (clashes b) b (placeAt (t .turns) walk) ≡ back ts (incumbent (walk .best) (walk .starts))
   unfolding next startsAt placeAt visit prunes boundOf
   gone at u h = go (walk .best) refl
     where
-      go : (best : Best) → walk .best ≡ best → visit (clashes b) b (placeAt (t .turns) walk) (leastStarts (b .n) qs) ≡ back ts (incumbent (walk .best) (walk .starts))
+      go : (best : Best) → walk .best ≡ best → visit (clashes b) b (placeAt (t .turns) walk) (leastStarts (earliestStarts b) (latestStarts b) qs) ≡ back ts (incumbent (walk .best) (walk .starts))
       go Nothing e =
           let p = passes b sizes kit t walk w in
           ap (visit (clashes b) b (placeAt (t .turns) walk))
@@ -89,11 +92,14 @@ module _ (b : Batch) (sizes : Sizes) (kit : Kit) (t : Trail) (walk : Walk) (w : 
   unfolding next visit placeAt
   lost e = ap (visit (clashes b) b (placeAt (t .turns) walk)) e
 
+  first-latency : sizes .first ≡ latencyOf (kit .stays) (earliestRead b) 24
+  first-latency = w .first ∙ ap (λ (l : List ℕ). latencyOf (kit .stays) l 24) (w .earliest)
+
   -- what the node begins with
-  module _ (zero : List ℕ) (z : zero ≡ replicate 24 0) (made : List ℕ × ℕ) (e : made ≡ begun (t .rows) (t .tags) (t .ends) (t .tail) (t .head) (t .gap) (walk .depth) (kit .stays) (sizes .longest) zero) where
-    begin : Begins b (counts b sizes kit t walk w .1) (kit .stays) (t .turns) (t .rows) (t .tags) (t .ends) (t .tail) (t .head) (t .gap) (sizes .longest) (w .longest) (walk .depth) made
+  module _ (zero : List ℕ) (z : zero ≡ kit .earliest) (made : List ℕ × ℕ) (e : made ≡ begun (t .rows) (t .tags) (t .ends) (t .tail) (t .head) (t .gap) (walk .depth) (kit .stays) (sizes .first) zero) where
+    begin : Begins b (counts b sizes kit t walk w .1) (kit .stays) (t .turns) (t .rows) (t .tags) (t .ends) (t .tail) (t .head) (t .gap) (sizes .first) first-latency (walk .depth) made
     begin =
-        rw (e, z) (begins b (counts b sizes kit t walk w .1) (kit .stays) (t .turns) (t .rows) (t .tags) (t .ends) (t .tail) (t .head) (t .gap) (sizes .longest) (w .longest) (walk .depth) (w .stands .kept) (turn-stored b sizes kit t walk w))
+        rw (e, z ∙ w .earliest) (begins b (counts b sizes kit t walk w .1) (kit .stays) (t .turns) (t .rows) (t .tags) (t .ends) (t .tail) (t .head) (t .gap) (sizes .first) first-latency (walk .depth) (w .stands .kept) (turn-stored b sizes kit t walk w))
 
     base : Base b qs (made .0)
     base = begin .base
@@ -114,7 +120,7 @@ module _ (b : Batch) (sizes : Sizes) (kit : Kit) (t : Trail) (walk : Walk) (w : 
         gone (base .jobs) (base .under) (omega (arith, first, latency-padded b (counts b sizes kit t walk w .1) (base .jobs) (base .long)))
 
     module _ (bound : ℕ) (g : bound ≡ boundOf (walk .best)) (p : made .1 < bound) where
-      limit : bound ≤ 23017
+      limit : bound ≤ 43017
       limit = omega (arith, bound-small b sizes kit t walk w)
 
       -- what the rounds leave
@@ -122,7 +128,7 @@ module _ (b : Batch) (sizes : Sizes) (kit : Kit) (t : Trail) (walk : Walk) (w : 
       reached = roundsOf table (staysRead b) ((b .n + 3) / 4) bound (pad 24 0 (base .jobs)) (made .1) (b .n)
 
       abbrev all-came : Came qs (base .jobs) (staysRead b) bound (b .n) reached
-      all-came = came (b .n) (counts b sizes kit t walk w .1) table qs tabled (base .jobs) (staysRead b) (base .long) bound limit (made .1) first p (b .n)
+      all-came = came b (counts b sizes kit t walk w .1) table qs tabled (base .jobs) (staysRead b) (base .long) bound limit (made .1) first p (b .n)
 
       abbrev ss : List ℕ
       ss = rounds qs (base .jobs) (all-came .j)
@@ -133,38 +139,46 @@ module _ (b : Batch) (sizes : Sizes) (kit : Kit) (t : Trail) (walk : Walk) (w : 
       last-is : reached .latency ≡ latency b ss
       last-is = all-came .latency ∙ latency-padded b (counts b sizes kit t walk w .1) ss long
 
-      found : reached .found ≡ true → Least b t walk (reached .starts) (reached .latency)
-      unfolding startsAt
+      abbrev answer : Reached
+      answer = timely (latestRead b) reached
+
+      found : answer .found ≡ true → Least b t walk (reached .starts) (reached .latency)
+      unfolding startsAt timely
       found f =
           let c = counts b sizes kit t walk w in
-          let q = found-below (b .n) (c .1) table qs tabled (base .jobs) (staysRead b) (base .long) bound limit (made .1) first p f in
+          let q = found-below b (c .1) table qs tabled (base .jobs) (staysRead b) (base .long) bound limit (made .1) first p (both (reached .found) _ f .0) in
           record {
             jobs = ss;
-            least = found-least (b .n) (c .1) table qs tabled (base .jobs) (staysRead b) (base .long) bound limit (made .1) first p (c .0) (base .under) f;
+            least = found-least b (c .1) table qs tabled (base .jobs) (staysRead b) (base .long) bound limit (made .1) first p (c .0) (base .under) f;
             padded = all-came .starts;
             told = last-is;
             below = below-kept (walk .best) (latency b ss) (omega (arith, q, last-is));
             small = omega (arith, q, limit);
           }
 
-      not-found : reached .found ≡ false → next (clashes b) b (placeAt (t .turns) walk) ≡ back ts (incumbent (walk .best) (walk .starts))
+      not-found : answer .found ≡ false → next (clashes b) b (placeAt (t .turns) walk) ≡ back ts (incumbent (walk .best) (walk .starts))
       unfolding startsAt
-      not-found f = go (lost-least (b .n) (c .1) table qs tabled (base .jobs) (staysRead b) (base .long) bound limit (made .1) first p (c .0) (base .under) f)
+      not-found f = go (lost-least b (c .1) table qs tabled (base .jobs) (staysRead b) (base .long) bound limit (made .1) first p (c .0) (base .under) f)
         where
           c : (1 ≤ b .n) × (b .n ≤ 24) × (b .m ≤ 128)
           c = counts b sizes kit t walk w
 
-          go : (leastStarts (b .n) qs ≡ none) ⊎ (bound ≤ reached .latency) → next (clashes b) b (placeAt (t .turns) walk) ≡ back ts (incumbent (walk .best) (walk .starts))
+          go : (leastStarts (earliestStarts b) (latestStarts b) qs ≡ none) ⊎ (bound ≤ reached .latency) → next (clashes b) b (placeAt (t .turns) walk) ≡ back ts (incumbent (walk .best) (walk .starts))
           go (inl e) = lost e
-          go (inr h) = gone ss (under-rounds qs (base .jobs) (base .under) (all-came .j)) (omega (arith, last-is))
+          go (inr h) = gone ss (under-rounds (earliestStarts b) (latestStarts b) qs (base .jobs) (base .under) (all-came .j)) (omega (arith, last-is))
+
+      -- the starts and the latency are those that the rounds leave
+      told-found : answer .found ≡ true → Least b t walk (answer .starts) (answer .latency)
+      unfolding timely
+      told-found f = found f
 
       -- what least_starts answers, over the arrays
-      is : (r : Reached) → r ≡ leastOf (sizes .jobs) (sizes .delays) (kit .from) (kit .to) (kit .code) (t .tail) (t .head) (t .gap) (walk .depth) (kit .stays) bound (made .0) (made .1) → r ≡ reached
+      is : (r : Reached) → r ≡ leastOf (sizes .jobs) (sizes .delays) (kit .from) (kit .to) (kit .code) (t .tail) (t .head) (t .gap) (walk .depth) (kit .stays) (kit .latest) bound (made .0) (made .1) → r ≡ answer
       unfolding leastOf
-      is r h = h ∙ least-same (t .tail) (t .head) (t .gap) (walk .depth) bound (made .1) (w .jobs) (w .few) (w .from) (w .to) (w .code) (w .each-stays) (base .padded)
+      is r h = h ∙ least-same (t .tail) (t .head) (t .gap) (walk .depth) bound (made .1) (w .jobs) (w .few) (w .from) (w .to) (w .code) (w .each-stays) (w .latest) (base .padded)
 
-      pub reaches : (r : Reached) → r ≡ leastOf (sizes .jobs) (sizes .delays) (kit .from) (kit .to) (kit .code) (t .tail) (t .head) (t .gap) (walk .depth) (kit .stays) bound (made .0) (made .1)
+      pub reaches : (r : Reached) → r ≡ leastOf (sizes .jobs) (sizes .delays) (kit .from) (kit .to) (kit .code) (t .tail) (t .head) (t .gap) (walk .depth) (kit .stays) (kit .latest) bound (made .0) (made .1)
           → (r .found ≡ true → Least b t walk (r .starts) (r .latency)) × (r .found ≡ false → next (clashes b) b (placeAt (t .turns) walk) ≡ back ts (incumbent (walk .best) (walk .starts)))
       reaches r h =
           subst (λ (x : Reached). (x .found ≡ true → Least b t walk (x .starts) (x .latency)) × (x .found ≡ false → next (clashes b) b (placeAt (t .turns) walk) ≡ back ts (incumbent (walk .best) (walk .starts))))
-          (sym (is r h)) (found, not-found)
+          (sym (is r h)) (told-found, not-found)

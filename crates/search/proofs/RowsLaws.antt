@@ -13,49 +13,50 @@ use Rattle.model.specs.declared.Batch.{Batch}
 use Rattle.model.specs.declared.Delay.{Delay}
 use Rattle.model.specs.declared.Turn.{Turn}
 use Rattle.model.specs.Common.{if_then_else_, pad}
-use Rattle.model.specs.Batch.{delaysOf}
+use Rattle.model.specs.Batch.{delaysOf, earliestStarts, latestStarts}
 use Rattle.model.specs.Clash.{clashes}
 use Rattle.model.specs.Search.{turned, inequalities}
 use Rattle.model.proofs.SeqLaws.{pad-at, pad-length, map-snoc, listed-cong}
-use Rattle.model.proofs.StartsLaws.{first-length}
-use Rattle.model.proofs.UnderLaws.{Under, under-first, under-path, under-raised}
+use Rattle.model.proofs.StartsLaws.{ends-length}
+use Rattle.model.proofs.UnderLaws.{Below, under-first, under-path, under-raised}
 use Rattle.weights.specs.Code.{coded, Fits}
 use Rattle.times.specs.Fill.{Small}
-use Rattle.times.specs.Latency.{latencyOf, longestOf}
-use Rattle.weights.proofs.CodeLaws.{plus-coded}
+use Rattle.times.specs.Ends.{earliestRead}
+use Rattle.times.specs.Latency.{latencyOf}
+use Rattle.weights.proofs.CodeLaws.{coded-most, plus-coded}
 use Rattle.times.proofs.FillLaws.{set-all, zeros-small}
 use Rattle.times.proofs.LatencyLaws.{latency-set}
-use Rattle.starts.proofs.MetLaws.{zeros}
+use Rattle.times.proofs.EndsLaws.{earliest-is}
 use Rattle.search.specs.Walk.{turnOf, turnsIn, Kin}
 use Rattle.search.specs.Rows.{raisedStart, raisedRow, begun, Base, Kept}
 use Rattle.search.proofs.BackLaws.{turns-more, turns-set}
 
 -- ---- the cases of the code
 
-module _ (rows : List (List ℕ)) (tags ends tail head gap stays : List ℕ) (longest : ℕ) (first : List ℕ) where
+module _ (rows : List (List ℕ)) (tags ends tail head gap stays : List ℕ) (latency₀ : ℕ) (first : List ℕ) where
   abbrev Begun : ℕ → List ℕ → ℕ → Type 0
-  Begun depth starts latency = _≡_ {A = List ℕ × ℕ} (starts, latency) (begun rows tags ends tail head gap depth stays longest first)
+  Begun depth starts latency = _≡_ {A = List ℕ × ℕ} (starts, latency) (begun rows tags ends tail head gap depth stays latency₀ first)
 
-  pub begun-none : (depth : ℕ) → depth ≡ 0 → Begun depth first longest
+  pub begun-none : (depth : ℕ) → depth ≡ 0 → Begun depth first latency₀
   unfolding begun
   begun-none depth h = rw h
 
   module _ (last tag : ℕ) (t : tag ≡ getD tags (last % 32) 0) where
     -- no row is there
-    pub begun-missed : (depth : ℕ) → (depth ≡ 0 → ⊥) → last ≡ depth - 1 → (tag ≡ last → ⊥) → Begun depth first longest
+    pub begun-missed : (depth : ℕ) → (depth ≡ 0 → ⊥) → last ≡ depth - 1 → (tag ≡ last → ⊥) → Begun depth first latency₀
     unfolding begun if_then_else_
     begun-missed zero more e h = absurd (more refl)
     begun-missed (suc d) more e h =
         let z : d ≡ last = omega arith in rw (z, ne-eqb (getD tags (last % 32) 0) last (λ s. h (t ∙ s)))
 
     -- a row, raised by the last turn; the jobs, the larger sum and the latency are results of calls
-    pub begun-raised : (depth : ℕ) → (depth ≡ 0 → ⊥) → last ≡ depth - 1 → tag ≡ last → (i j most wide latency : ℕ) → i ≡ getD tail last 0 → j ≡ getD head last 0
-        → most ≡ max (getD (getD rows (last % 32) []) j 0 + 30000) (getD (getD rows (last % 32) []) i 0 + getD gap last 0) → wide ≡ getD stays j 0
-        → latency ≡ max (getD ends (last % 32) 0) (most - 30000 + wide) → Begun depth (set (getD rows (last % 32) []) j (most - 30000)) latency
+    pub begun-raised : (depth : ℕ) → (depth ≡ 0 → ⊥) → last ≡ depth - 1 → tag ≡ last → (i j x most wide latency : ℕ) → i ≡ getD tail last 0 → j ≡ getD head last 0
+        → most ≡ max (getD (getD rows (last % 32) []) j 0 + 1000) x → x ≡ getD (getD rows (last % 32) []) i 0 + 2000 - getD gap last 0 → wide ≡ getD stays j 0
+        → latency ≡ max (getD ends (last % 32) 0) (most - 1000 + wide) → Begun depth (set (getD rows (last % 32) []) j (most - 1000)) latency
     unfolding begun raisedRow raisedStart if_then_else_
-    begun-raised zero more e h i j most wide latency a b c g l = absurd (more refl)
-    begun-raised (suc d) more e h i j most wide latency a b c g l =
-        let z : d ≡ last = omega arith in rw (z, eq-eqb (getD tags (last % 32) 0) last (sym t ∙ h), l, g, c, ← a, ← b)
+    begun-raised zero more e h i j x most wide latency a b c s g l = absurd (more refl)
+    begun-raised (suc d) more e h i j x most wide latency a b c s g l =
+        let z : d ≡ last = omega arith in rw (z, eq-eqb (getD tags (last % 32) 0) last (sym t ∙ h), l, g, c, s, ← a, ← b)
 
 -- ---- at or below every solution
 
@@ -74,9 +75,9 @@ pad-set ss j v few h =
         getD-set-other (pad 24 0 ss) j i v 0 e ∙ pad-at 24 0 ss i ∙ sym (pad-at 24 0 (set ss j v) i ∙ getD-set-other ss j i v 0 e)
 
 module _ (b : Batch) (few : b .n ≤ 24) where
-  -- starts that are all 0
-  base-none : (qs : List Delay) → Base b qs (replicate 24 0)
-  base-none qs = record { jobs = _; long = first-length (b .n); padded = sym (zeros (b .n) few); under = under-first qs (b .n) }
+  -- the earliest starts
+  base-none : (qs : List Delay) → Base b qs (earliestRead b)
+  base-none qs = record { jobs = earliestStarts b; long = ends-length b; padded = earliest-is b few; under = under-first (earliestStarts b) (latestStarts b) qs }
 
   -- a child begins with its parent's starts, raised by the inequality that it has more
   module _ (ts : List Turn) (t : Turn) (f : Fits (b .n) (turned (clashes b) t)) where
@@ -98,11 +99,11 @@ module _ (b : Batch) (few : b .n ≤ 24) where
     unfolding raisedStart
     padded-raised ss long = rw (pad-at 24 0 ss (q .to), pad-at 24 0 ss (q .from)) (pad-set ss (q .to) _ (omega arith) (omega (arith, f .to)))
 
-    under-more : (ss : List ℕ) → length ss ≡ b .n → Under (inequalities (clashes b) b ts) ss → Under more (raised ss)
+    under-more : (ss : List ℕ) → length ss ≡ b .n → Below b (inequalities (clashes b) b ts) ss → Below b more (raised ss)
     unfolding raisedStart
     under-more ss long u =
-        under-raised more ss q listed (under-path (clashes b) b ts (t ∷ []) ss u) (raised ss) (λ j e. getD-set-other ss (q .to) j _ 0 e)
-        (omega (arith, getD-set-same ss (q .to) (max (getD ss (q .to) 0 + 30000) (getD ss (q .from) 0 + coded (q .weight)) - 30000) 0 (omega (arith, f .to)), plus-coded (getD ss (q .from) 0) (q .weight) (f .weight)))
+        under-raised (earliestStarts b) (latestStarts b) more ss q listed (under-path (clashes b) b ts (t ∷ []) ss u) (raised ss) (λ j e. getD-set-other ss (q .to) j _ 0 e)
+        (omega (arith, getD-set-same ss (q .to) (max (getD ss (q .to) 0 + 1000) (getD ss (q .from) 0 + 2000 - coded (q .weight)) - 1000) 0 (omega (arith, f .to)), plus-coded (getD ss (q .from) 0) (q .weight) (f .weight), coded-most (q .weight) (f .weight)))
 
     base-raised : (row : List ℕ) → Base b (inequalities (clashes b) b ts) row → Base b more (raised row)
     base-raised row base =
@@ -113,14 +114,13 @@ module _ (b : Batch) (few : b .n ≤ 24) where
           under = under-more (base .jobs) (base .long) (base .under);
         }
 
-  module _ (stays turns : List ℕ) (rows : List (List ℕ)) (tags ends tail head gap : List ℕ) (longest : ℕ) (l : longest ≡ longestOf stays) where
+  module _ (stays turns : List ℕ) (rows : List (List ℕ)) (tags ends tail head gap : List ℕ) (latency₀ : ℕ) (l : latency₀ ≡ latencyOf stays (earliestRead b) 24) where
     -- what a node begins with
     pub record Begins (depth : ℕ) (made : List ℕ × ℕ) : Type 0 where
       pub base : Base b (inequalities (clashes b) b (turnsIn turns depth)) (made .0)
       pub latency : made .1 ≡ latencyOf stays (made .0) 24
 
-    begins-none : (depth : ℕ) → Begins depth (replicate 24 0, longest)
-    unfolding longestOf
+    begins-none : (depth : ℕ) → Begins depth (earliestRead b, latency₀)
     begins-none depth = record { base = base-none _; latency = l }
 
     -- the inequality of the last turn
@@ -135,7 +135,7 @@ module _ (b : Batch) (few : b .n ≤ 24) where
         rw (p, q, r)
         (record {
           base = rw (turns-more turns last) (base-raised (turnsIn turns last) (turnOf (getD turns last 0)) f row base);
-          latency = omega (arith, g, latency-set stays row (lastOf last .to) (max (getD row (lastOf last .to) 0 + 30000) (getD row (lastOf last .from) 0 + coded (lastOf last .weight)) - 30000) (omega (arith, long, f .to)) (omega arith) 24 (omega (arith, f .to)));
+          latency = omega (arith, g, latency-set stays row (lastOf last .to) (max (getD row (lastOf last .to) 0 + 1000) (getD row (lastOf last .from) 0 + 2000 - coded (lastOf last .weight)) - 1000) (omega (arith, long, f .to)) (omega arith) 24 (omega (arith, f .to)));
         })
       where
         row : List ℕ
@@ -146,13 +146,13 @@ module _ (b : Batch) (few : b .n ≤ 24) where
 
     pub begins : (depth : ℕ) → Kept b stays turns depth rows tags ends
         → ((last : ℕ) → last < depth → Fits (b .n) (lastOf last) × ((getD tail last 0 ≡ lastOf last .from) × ((getD head last 0 ≡ lastOf last .to) × (getD gap last 0 ≡ coded (lastOf last .weight)))))
-        → Begins depth (begun rows tags ends tail head gap depth stays longest (replicate 24 0))
+        → Begins depth (begun rows tags ends tail head gap depth stays latency₀ (earliestRead b))
     unfolding begun if_then_else_
     begins zero k s = begins-none 0
     begins (suc last) k s = go (eqb (getD tags (last % 32) 0) last) refl
       where
         go : (p : Bool) → eqb (getD tags (last % 32) 0) last ≡ p
-            → Begins (suc last) (if p then raisedRow (getD rows (last % 32) []) (getD ends (last % 32) 0) (getD tail last 0) (getD head last 0) (getD gap last 0) stays else (replicate 24 0, longest))
+            → Begins (suc last) (if p then raisedRow (getD rows (last % 32) []) (getD ends (last % 32) 0) (getD tail last 0) (getD head last 0) (getD gap last 0) stays else (earliestRead b, latency₀))
         go true e =
             let tagged = eqb-true (getD tags (last % 32) 0) last e in
             let step = s last (omega arith) in
@@ -169,7 +169,7 @@ module _ (b : Batch) (stays : List ℕ) where
         long = length-replicate 32 (replicate {A = ℕ} 24 0);
         tagged = length-replicate {A = ℕ} 32 65535;
         ended = length-replicate {A = ℕ} 32 0;
-        small = record { starts = rows 32; latency = zeros-small 23016 32 };
+        small = record { starts = rows 32; latency = zeros-small 43016 32 };
         latency = λ d p e. absurd (omega (arith, tag d));
         under = λ d p e. absurd (omega (arith, tag d));
       }
@@ -177,9 +177,9 @@ module _ (b : Batch) (stays : List ℕ) where
       tag : (d : ℕ) → _≡_ {A = ℕ} (getD (replicate 32 65535) (d % 32) 0) 65535
       tag d = getD-replicate 32 (d % 32) 65535 0 (omega arith)
 
-      rows : (n k : ℕ) → Small (getD (replicate n (replicate 24 0)) k []) 23016
-      rows zero k = zeros-small 23016 0
-      rows (suc n) zero = zeros-small 23016 24
+      rows : (n k : ℕ) → Small (getD (replicate n (replicate 24 0)) k []) 43016
+      rows zero k = zeros-small 43016 0
+      rows (suc n) zero = zeros-small 43016 24
       rows (suc n) (suc k) = rows n k
 
   -- going back drops rows
@@ -200,7 +200,7 @@ module _ (b : Batch) (stays : List ℕ) where
 
   -- one turn more, and the row of the node that takes it
   pub kept-more : (turns : List ℕ) (depth x : ℕ) (rows : List (List ℕ)) (tags ends starts : List ℕ) (last : ℕ) → Kept b stays turns depth rows tags ends
-      → Small starts 23016 → last ≤ 23016 → last ≡ latencyOf stays starts 24 → Base b (inequalities (clashes b) b (turnsIn turns depth)) starts
+      → Small starts 43016 → last ≤ 43016 → last ≡ latencyOf stays starts 24 → Base b (inequalities (clashes b) b (turnsIn turns depth)) starts
       → Kept b stays (set turns depth x) (depth + 1) (set rows (depth % 32) starts) (set tags (depth % 32) depth) (set ends (depth % 32) last)
   kept-more turns depth x rows tags ends starts last k small most l base =
       record {
@@ -208,8 +208,8 @@ module _ (b : Batch) (stays : List ℕ) where
         tagged = length-set tags _ depth ∙ k .tagged;
         ended = length-set ends _ last ∙ k .ended;
         small = record {
-          starts = set-all (λ (r : List ℕ). Small r 23016) rows _ starts [] (k .small .starts) small;
-          latency = record { each = set-all (λ (y : ℕ). y ≤ 23016) ends _ last 0 (k .small .latency .each) most };
+          starts = set-all (λ (r : List ℕ). Small r 43016) rows _ starts [] (k .small .starts) small;
+          latency = record { each = set-all (λ (y : ℕ). y ≤ 43016) ends _ last 0 (k .small .latency .each) most };
         };
         latency = λ d h e. late d h e (ℕ-discrete (d % 32) (depth % 32));
         under = λ d h e. low d h e (ℕ-discrete (d % 32) (depth % 32));

@@ -13,14 +13,15 @@ use Rattle.model.specs.declared.Turn.{Turn}
 use Rattle.model.specs.declared.Best.{Best}
 use Rattle.model.specs.declared.Best.the-variants.{Latency}
 use Rattle.model.specs.Common.{if_then_else_, pad}
+use Rattle.model.specs.Batch.{earliestStarts, latestStarts}
 use Rattle.model.specs.Plan.{latency}
 use Rattle.model.specs.Clash.{clashes}
 use Rattle.model.specs.Search.{Place, inequalities, startsAt, firstMet, back, becomeBest, branch, visit, next}
 use Rattle.model.proofs.SeqLaws.{pad-at, pad-length}
 use Rattle.model.proofs.UnderLaws.{under-least}
-use Rattle.model.proofs.StartsLaws.{least-length}
+use Rattle.model.proofs.StartsLaws.{least-length, ends-length, inside-ends}
 use Rattle.model.proofs.GoodLaws.{good-room}
-use Rattle.model.proofs.NodeLaws.{met-first, met-new}
+use Rattle.model.proofs.NodeLaws.{met-first, met-new, all-inside}
 use Rattle.model.proofs.GoodLaws.{good-named}
 use Rattle.model.proofs.SoundLaws.{fits}
 use Rattle.clashes.specs.declared.Met.{Met}
@@ -42,7 +43,7 @@ use Rattle.search.proofs.BackLaws.{turns-more, turns-set, path-set}
 use Rattle.search.proofs.PathLaws.{turns-length}
 use Rattle.search.proofs.StepsLaws.{steps-more, steps-less}
 use Rattle.search.proofs.RowsLaws.{kept-back, kept-more}
-use Rattle.search.proofs.WorksLaws.{passes, good, counts, tables, few, list, clash-coded}
+use Rattle.search.proofs.WorksLaws.{passes, good, good-turns, counts, tables, few, list, clash-coded}
 
 met-none : (o : Option ℕ) → metOf o ≡ seen.Nothing → o ≡ none
 unfolding metOf
@@ -100,11 +101,11 @@ module _ (b : Batch) (sizes : Sizes) (kit : Kit) (t : Trail) (walk : Walk) (w : 
 
     long : length ss ≡ b .n
     unfolding startsAt
-    long = least-length (b .n) _ ss (l .least)
+    long = least-length (earliestStarts b) (latestStarts b) _ ss (l .least) ∙ ends-length b
 
     base : Base b (inequalities (clashes b) b ts) starts
     unfolding startsAt
-    base = record { jobs = ss; long = long; padded = l .padded; under = under-least (b .n) _ ss (l .least) }
+    base = record { jobs = ss; long = long; padded = l .padded; under = under-least (earliestStarts b) (latestStarts b) _ (inside-ends b _ (all-inside b (fits b (passes b sizes kit t walk w)) ts (good-named b ts (good-turns b sizes kit t walk w)))) ss (l .least) }
 
     -- their latency over the arrays
     ends : last ≡ latencyOf (kit .stays) starts 24
@@ -112,9 +113,9 @@ module _ (b : Batch) (sizes : Sizes) (kit : Kit) (t : Trail) (walk : Walk) (w : 
         l .told ∙ sym (latency-padded b (counts b sizes kit t walk w .1) ss long) ∙ ap (λ (p : List ℕ). latencyOf p (pad 24 0 ss) 24) (sym (w .each-stays))
         ∙ ap (λ (x : List ℕ). latencyOf (kit .stays) x 24) (sym (l .padded))
 
-    small : Small starts 23016
+    small : Small starts 43016
     small =
-        below-small (kit .stays) starts last 23017 (ap length (l .padded) ∙ pad-length 24 0 ss (omega (arith, long, counts b sizes kit t walk w .1))) ends (omega (arith, l .small)) (omega arith)
+        below-small (kit .stays) starts last 43017 (ap length (l .padded) ∙ pad-length 24 0 ss (omega (arith, long, counts b sizes kit t walk w .1))) ends (omega (arith, l .small)) (omega arith)
 
     -- ss is not cut off at best
     decided : next (clashes b) b place ≡ branch b place ss (firstMet (clashes b) ss 0)

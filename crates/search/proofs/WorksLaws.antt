@@ -36,10 +36,10 @@ use Rattle.clashes.proofs.ListedLaws.{ranged-at, listed-at as clash-listed-at, 
 use Rattle.weights.specs.Code.{coded, Fits, ClashFits}
 use Rattle.times.specs.Fill.{Small}
 use Rattle.starts.specs.Table.{Placed}
-use Rattle.weights.specs.Delays.{delaysRead, heaviestOf}
+use Rattle.weights.specs.Delays.{delaysRead}
 use Rattle.times.specs.Stays.{staysRead}
-use Rattle.starts.specs.Least.{Holds}
-use Rattle.starts.proofs.HeldLaws.{held-placed, heavy-placed}
+use Rattle.weights.specs.Holds.{Holds}
+use Rattle.starts.proofs.HeldLaws.{held-placed}
 use Rattle.weights.proofs.TurnLaws.{clash-named, turn-side}
 use Rattle.times.proofs.LatencyLaws.{stays-small}
 use Rattle.weights.proofs.SoundLaws.{delays-length, holds-read}
@@ -81,10 +81,10 @@ unfolding searchOf
 search-batch b total q = refl
 
 -- the bound of a best within its limits
-bounded : (n : ℕ) (best : Best) (starts : List ℕ) → soundBest n best starts ≡ true → boundOf best ≤ 23017
+bounded : (n : ℕ) (best : Best) (starts : List ℕ) → soundBest n best starts ≡ true → boundOf best ≤ 43017
 unfolding boundOf soundBest
 bounded n Nothing starts e = omega arith
-bounded n (Latency k) starts e = omega (arith, leb-true k 23016 (both (leb k 23016) _ e .0))
+bounded n (Latency k) starts e = omega (arith, leb-true k 43016 (both (leb k 43016) _ e .0))
 
 -- an item of a list, mapped
 mapped-at : {A B : Type 0} (f : A → B) (xs : List A) (k : ℕ) (d : B) (e : A) → k < length xs → getD (map f xs) k d ≡ f (getD xs k e)
@@ -182,7 +182,7 @@ module _ (b : Batch) (sizes : Sizes) (kit : Kit) (t : Trail) (walk : Walk) (w : 
   small-stays = rw (w .each-stays) (passing-stays b passes)
 
   -- best is within its limits, and so is the bound
-  pub bound-small : boundOf (walk .best) ≤ 23017
+  pub bound-small : boundOf (walk .best) ≤ 43017
   unfolding placeAt
   bound-small = bounded (b .n) (walk .best) (walk .starts) (good .best)
 
@@ -191,12 +191,11 @@ module _ (b : Batch) (sizes : Sizes) (kit : Kit) (t : Trail) (walk : Walk) (w : 
   pub held : Holds (b .n) (delaysOf b) (delaysRead b .from) (delaysRead b .to) (delaysRead b .code)
   held = holds-read b (counts .2) (passes .jobs-each) (passes .weight-each)
 
-  pub delays-placed : Placed (kit .from) (kit .to) (kit .code) (sizes .delays)
+  pub delays-placed : Placed (kit .from) (kit .to) (sizes .delays)
   delays-placed =
       let d = delaysRead b in
-      rw (w .from, w .to, w .code, w .few)
-      (subst (λ (m : ℕ). Placed (d .from) (d .to) (heaviestOf m (d .from) (d .to) (d .code)) m) (delays-length b)
-      (heavy-placed (b .n) (counts .1) (delaysOf b) (d .from) (d .to) (d .code) held (omega (arith, counts .2, delays-length b))))
+      rw (w .from, w .to, w .few)
+      (subst (Placed (d .from) (d .to)) (delays-length b) (held-placed (b .n) (counts .1) (delaysOf b) (d .from) (d .to) (d .code) held))
 
   -- ---- turns
 
@@ -234,7 +233,7 @@ module _ (b : Batch) (sizes : Sizes) (kit : Kit) (t : Trail) (walk : Walk) (w : 
       at : (k : ℕ) → k < depth → getD (map (turned (clashes b)) (turnsIn turns depth)) k blankDelay ≡ turned (clashes b) (turnOf (getD turns k 0))
       at k h = mapped-at (turned (clashes b)) (turnsIn turns depth) k blankDelay empty (omega (arith, turns-length turns depth)) ∙ ap (turned (clashes b)) (turn-at b turns walk (w .stands .path) (w .is-sound) k h)
 
-  pub turns-placed : Placed (t .tail) (t .head) (t .gap) depth
+  pub turns-placed : Placed (t .tail) (t .head) depth
   turns-placed =
-      subst (Placed (t .tail) (t .head) (t .gap)) (length-map (turnsIn turns depth) (turned (clashes b)) ∙ turns-length turns depth)
+      subst (Placed (t .tail) (t .head)) (length-map (turnsIn turns depth) (turned (clashes b)) ∙ turns-length turns depth)
       (held-placed (b .n) (counts .1) (map (turned (clashes b)) (turnsIn turns depth)) (t .tail) (t .head) (t .gap) turns-held)

@@ -14,21 +14,25 @@ use Rattle.model.specs.Search.{startsAt, prunes, back, next, searchOf, nodesOn}
 use Rattle.model.specs.Sound.{sound}
 use Rattle.clashes.specs.List.{listOf}
 use Rattle.clashes.specs.Pairs.{Paired}
-use Rattle.weights.specs.Delays.{delaysRead, heaviestOf}
+use Rattle.weights.specs.Delays.{delaysRead}
+use Rattle.starts.specs.Table.{heaviestOf}
 use Rattle.times.specs.Stays.{staysRead}
-use Rattle.times.specs.Latency.{longestOf}
+use Rattle.times.specs.Ends.{earliestRead, latestRead}
+use Rattle.times.specs.Latency.{latencyOf}
 use Rattle.search.specs.declared.node.Walk.{Walk}
 use Rattle.search.specs.declared.node.Sizes.{Sizes}
 use Rattle.search.specs.declared.nodes.Walked.{Walked}
 use Rattle.search.specs.Walk.{Path, Kin, Steps, incumbent, turnsIn, placeAt}
 use Rattle.search.specs.Rows.{Kept}
 
--- what does not change in a run: the delays, the jobs' stays, the clashes' codes, and these by pairs of jobs
+-- what does not change in a run: the delays, the jobs' stays and ends, the clashes' codes, and these by pairs of jobs
 pub record Kit : Type 0 where
   pub from : List ℕ
   pub to : List ℕ
   pub code : List ℕ
   pub stays : List ℕ
+  pub earliest : List ℕ
+  pub latest : List ℕ
   pub codes : List ℕ
   pub pair : List ℕ
   pub held : List ℕ
@@ -50,7 +54,7 @@ pub record Stands (b : Batch) (kit : Kit) (t : Trail) (depth : ℕ) : Type 0 whe
   pub steps : Steps (kit .codes) (t .turns) depth (t .tail) (t .head) (t .gap)
   pub kept : Kept b (kit .stays) (t .turns) depth (t .rows) (t .tags) (t .ends)
 
--- they hold the batch's delays, stays and clashes, and a sound place
+-- they hold the batch's delays, stays, ends and clashes, and a sound place
 pub record Works (b : Batch) (sizes : Sizes) (kit : Kit) (t : Trail) (walk : Walk) : Type 0 where
   pub jobs : sizes .jobs ≡ b .n
   pub few : sizes .delays ≡ b .m
@@ -58,7 +62,9 @@ pub record Works (b : Batch) (sizes : Sizes) (kit : Kit) (t : Trail) (walk : Wal
   pub to : kit .to ≡ delaysRead b .to
   pub code : kit .code ≡ heaviestOf (b .m) (delaysRead b .from) (delaysRead b .to) (delaysRead b .code)
   pub each-stays : kit .stays ≡ staysRead b
-  pub longest : sizes .longest ≡ longestOf (kit .stays)
+  pub earliest : kit .earliest ≡ earliestRead b
+  pub latest : kit .latest ≡ latestRead b
+  pub first : sizes .first ≡ latencyOf (kit .stays) (kit .earliest) 24
   pub listed : record { count = sizes .clashes; codes = kit .codes } ≡ listOf b
   pub paired : (n : ℕ) × ((n ≤ sizes .clashes) × Paired (kit .codes) (kit .pair) (kit .held) (kit .end) (sizes .pairs) n)
   pub stands : Stands b kit t (walk .depth)
@@ -75,7 +81,7 @@ pub record Least (b : Batch) (t : Trail) (walk : Walk) (starts : List ℕ) (last
   pub padded : starts ≡ pad 24 0 jobs
   pub told : last ≡ latency b jobs
   pub below : prunes (walk .best) (latency b jobs) ≡ false
-  pub small : last ≤ 23016
+  pub small : last ≤ 43016
 
 -- whatever batch they stand for, a node that is told to go on has these least starts, and another goes back
 abbrev pub Reaches : Sizes → Kit → Trail → Walk → Bool → List ℕ → ℕ → Type 0

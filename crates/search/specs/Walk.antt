@@ -40,7 +40,7 @@ backAs turns (suc d) = some (turnsIn turns (suc d))
 
 -- a latency at or above this sends a node back: best's, or one above the largest that there is
 unfoldable pub boundOf : Best → ℕ
-boundOf Nothing = 23017
+boundOf Nothing = 43017
 boundOf (Latency k) = k
 
 -- the first turns are on clashes that the codes name

@@ -10,7 +10,6 @@ use model::wide16;
 use starts::least_starts;
 use weights::turn::store_turn;
 ghost use mathlib.Core.Path.{_≡_};
-ghost use lib.ListN.{replicate};
 ghost use Rattle.search.specs.Walk.{Path, Coded, Steps, boundOf};
 ghost use Rattle.search.specs.Kit.{Ready, Reaches, Returned, Visited};
 
@@ -22,13 +21,13 @@ pub struct Walk {
     pub ended: bool,
 }
 
-// How many jobs, delays, clashes and pairs of jobs that clash there are, and the longest stay of a job.
+// How many jobs, delays, clashes and pairs of jobs that clash there are, and the latency of the earliest starts.
 pub struct Sizes {
     pub jobs: usize,
     pub delays: usize,
     pub clashes: usize,
     pub pairs: usize,
-    pub longest: u16,
+    pub first: u16,
 }
 
 // A latency at or above this sends a node back: best's, or one above the largest that there is.
@@ -36,13 +35,13 @@ fn bound_of(best: Best) -> u16
     ensures { λ r. ⌜ r ≡ boundOf best ⌝ }
 {
     let Best::Latency(least) = best else {
-        return 23017;
+        return 43017;
     };
     least
 }
 
-// The least starts of a node and their latency, in place of starts that are all 0, if there are any and their latency is below best's. If not,
-// false, and what is left in their place means nothing. The clashes, the pairs and the turns are there for the contract alone.
+// The least starts of a node and their latency, in place of the earliest starts, if there are any and their latency is below best's. If not, false, and what is
+// left in their place means nothing. The clashes, the pairs, the turns and the earliest starts themselves are there for the contract alone.
 fn reach(
     walk: Walk,
     sizes: Sizes,
@@ -50,6 +49,8 @@ fn reach(
     to: &[u8; 128],
     code: &[u16; 128],
     stays: &[u8; 24],
+    earliest: &[u16; 24],
+    latest: &[u16; 24],
     codes: &[u16; 1024],
     pair: &[u16; 276],
     held: &[u32; 276],
@@ -64,9 +65,9 @@ fn reach(
     starts: &mut [u16; 24],
     latency: &mut u16,
 ) -> bool
-    requires { ⌜ Ready sizes (record { from = now from; to = now to; code = now code; stays = now stays; codes = now codes; pair = now pair; held = now held; end = now end }) (record { turns = now turns; tail = now tail; head = now head; gap = now gap; rows = now rows; tags = now tags; ends = now ends }) walk ⌝ }
-    requires { ⌜ now starts ≡ replicate 24 0 ⌝ }
-    ensures { λ r. ⌜ Reaches sizes (record { from = now (from .entry); to = now (to .entry); code = now (code .entry); stays = now (stays .entry); codes = now (codes .entry); pair = now (pair .entry); held = now (held .entry); end = now (end .entry) }) (record { turns = now (turns .entry); tail = now (tail .entry); head = now (head .entry); gap = now (gap .entry); rows = now (rows .entry); tags = now (tags .entry); ends = now (ends .entry) }) walk r (now (starts .exit)) (now (latency .exit)) ⌝ }
+    requires { ⌜ Ready sizes (record { from = now from; to = now to; code = now code; stays = now stays; earliest = now earliest; latest = now latest; codes = now codes; pair = now pair; held = now held; end = now end }) (record { turns = now turns; tail = now tail; head = now head; gap = now gap; rows = now rows; tags = now tags; ends = now ends }) walk ⌝ }
+    requires { ⌜ now starts ≡ now earliest ⌝ }
+    ensures { λ r. ⌜ Reaches sizes (record { from = now (from .entry); to = now (to .entry); code = now (code .entry); stays = now (stays .entry); earliest = now (earliest .entry); latest = now (latest .entry); codes = now (codes .entry); pair = now (pair .entry); held = now (held .entry); end = now (end .entry) }) (record { turns = now (turns .entry); tail = now (tail .entry); head = now (head .entry); gap = now (gap .entry); rows = now (rows .entry); tags = now (tags .entry); ends = now (ends .entry) }) walk r (now (starts .exit)) (now (latency .exit)) ⌝ }
 {
     let depth = walk.depth;
     let best = walk.best;
@@ -80,7 +81,7 @@ fn reach(
         gap,
         depth,
         stays,
-        sizes.longest,
+        sizes.first,
         starts,
     );
     *latency = first;
@@ -98,6 +99,7 @@ fn reach(
         gap,
         depth,
         stays,
+        latest,
         bound,
         starts,
         latency,
@@ -148,6 +150,8 @@ pub fn visit(
     to: &[u8; 128],
     code: &[u16; 128],
     stays: &[u8; 24],
+    earliest: &[u16; 24],
+    latest: &[u16; 24],
     codes: &[u16; 1024],
     pair: &[u16; 276],
     held: &[u32; 276],
@@ -160,13 +164,13 @@ pub fn visit(
     tags: &mut [u16; 32],
     ends: &mut [u16; 32],
 ) -> Walk
-    requires { ⌜ Ready sizes (record { from = now from; to = now to; code = now code; stays = now stays; codes = now codes; pair = now pair; held = now held; end = now end }) (record { turns = now turns; tail = now tail; head = now head; gap = now gap; rows = now rows; tags = now tags; ends = now ends }) walk ⌝ }
-    ensures { λ r. ⌜ Visited sizes (record { from = now (from .entry); to = now (to .entry); code = now (code .entry); stays = now (stays .entry); codes = now (codes .entry); pair = now (pair .entry); held = now (held .entry); end = now (end .entry) }) (record { turns = now (turns .entry); tail = now (tail .entry); head = now (head .entry); gap = now (gap .entry); rows = now (rows .entry); tags = now (tags .entry); ends = now (ends .entry) }) walk (record { turns = now (turns .exit); tail = now (tail .exit); head = now (head .exit); gap = now (gap .exit); rows = now (rows .exit); tags = now (tags .exit); ends = now (ends .exit) }) r ⌝ }
+    requires { ⌜ Ready sizes (record { from = now from; to = now to; code = now code; stays = now stays; earliest = now earliest; latest = now latest; codes = now codes; pair = now pair; held = now held; end = now end }) (record { turns = now turns; tail = now tail; head = now head; gap = now gap; rows = now rows; tags = now tags; ends = now ends }) walk ⌝ }
+    ensures { λ r. ⌜ Visited sizes (record { from = now (from .entry); to = now (to .entry); code = now (code .entry); stays = now (stays .entry); earliest = now (earliest .entry); latest = now (latest .entry); codes = now (codes .entry); pair = now (pair .entry); held = now (held .entry); end = now (end .entry) }) (record { turns = now (turns .entry); tail = now (tail .entry); head = now (head .entry); gap = now (gap .entry); rows = now (rows .entry); tags = now (tags .entry); ends = now (ends .entry) }) walk (record { turns = now (turns .exit); tail = now (tail .exit); head = now (head .exit); gap = now (gap .exit); rows = now (rows .exit); tags = now (tags .exit); ends = now (ends .exit) }) r ⌝ }
 {
     let depth = walk.depth;
     let best = walk.best;
     let kept = walk.starts;
-    let mut starts = [0u16; 24];
+    let mut starts = *earliest;
     let mut latency: u16 = 0;
     if !reach(
         walk,
@@ -175,6 +179,8 @@ pub fn visit(
         to,
         code,
         stays,
+        earliest,
+        latest,
         codes,
         pair,
         held,

@@ -42,6 +42,8 @@ pub fn visit_nodes(
     to: &[u8; 128],
     code: &[u16; 128],
     stays: &[u8; 24],
+    earliest: &[u16; 24],
+    latest: &[u16; 24],
     codes: &[u16; 1024],
     pair: &[u16; 276],
     held: &[u32; 276],
@@ -55,8 +57,8 @@ pub fn visit_nodes(
     ends: &mut [u16; 32],
 ) -> Walked
     requires { ⌜ budget .total + budget .left ≤ 100000000 ⌝ }
-    requires { ⌜ Ready sizes (record { from = now from; to = now to; code = now code; stays = now stays; codes = now codes; pair = now pair; held = now held; end = now end }) (record { turns = now turns; tail = now tail; head = now head; gap = now gap; rows = now rows; tags = now tags; ends = now ends }) start ⌝ }
-    ensures { λ r. ⌜ Walks sizes (record { from = now (from .entry); to = now (to .entry); code = now (code .entry); stays = now (stays .entry); codes = now (codes .entry); pair = now (pair .entry); held = now (held .entry); end = now (end .entry) }) (record { turns = now (turns .entry); tail = now (tail .entry); head = now (head .entry); gap = now (gap .entry); rows = now (rows .entry); tags = now (tags .entry); ends = now (ends .entry) }) start budget (now (turns .exit)) r ⌝ }
+    requires { ⌜ Ready sizes (record { from = now from; to = now to; code = now code; stays = now stays; earliest = now earliest; latest = now latest; codes = now codes; pair = now pair; held = now held; end = now end }) (record { turns = now turns; tail = now tail; head = now head; gap = now gap; rows = now rows; tags = now tags; ends = now ends }) start ⌝ }
+    ensures { λ r. ⌜ Walks sizes (record { from = now (from .entry); to = now (to .entry); code = now (code .entry); stays = now (stays .entry); earliest = now (earliest .entry); latest = now (latest .entry); codes = now (codes .entry); pair = now (pair .entry); held = now (held .entry); end = now (end .entry) }) (record { turns = now (turns .entry); tail = now (tail .entry); head = now (head .entry); gap = now (gap .entry); rows = now (rows .entry); tags = now (tags .entry); ends = now (ends .entry) }) start budget (now (turns .exit)) r ⌝ }
 {
     let mut walk = start;
     let mut tally = budget;
@@ -72,6 +74,8 @@ pub fn visit_nodes(
             to,
             code,
             stays,
+            earliest,
+            latest,
             codes,
             pair,
             held,

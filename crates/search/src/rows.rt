@@ -3,6 +3,7 @@
 // nothing else.
 use model::wide;
 use model::wide16;
+use times::ends::less;
 use times::latency::larger;
 use times::latency::stay_wide;
 ghost use mathlib.Core.Path.{_≡_};
@@ -11,8 +12,8 @@ ghost use Rattle.times.specs.Fill.{Small};
 ghost use Rattle.starts.specs.Table.{Placed};
 ghost use Rattle.search.specs.Rows.{SmallRing, begun};
 
-// The starts that a node at this depth begins with, given starts that are all 0, and their latency: its parent's raised by its last turn, if its parent's
-// row is there, and else all 0, with the longest stay.
+// The starts that a node at this depth begins with, given the earliest starts, and their latency: its parent's raised by its last turn, if its parent's row is
+// there, and else the earliest, with their latency.
 pub fn begin(
     rows: &[[u16; 24]; 32],
     tags: &[u16; 32],
@@ -22,25 +23,25 @@ pub fn begin(
     gap: &[u16; 1024],
     depth: usize,
     stays: &[u8; 24],
-    longest: u16,
+    first: u16,
     starts: &mut [u16; 24],
 ) -> u16
-    requires { ⌜ (depth ≤ 1024) × Placed (now tail) (now head) (now gap) depth ⌝ }
+    requires { ⌜ (depth ≤ 1024) × Placed (now tail) (now head) depth ⌝ }
     requires { ⌜ Small (now stays) 16 × SmallRing (now rows) (now ends) ⌝ }
-    ensures { λ r. ⌜ (now (starts .exit), r) ≡ begun (now (rows .entry)) (now (tags .entry)) (now (ends .entry)) (now (tail .entry)) (now (head .entry)) (now (gap .entry)) depth (now (stays .entry)) longest (now (starts .entry)) ⌝ }
+    ensures { λ r. ⌜ (now (starts .exit), r) ≡ begun (now (rows .entry)) (now (tags .entry)) (now (ends .entry)) (now (tail .entry)) (now (head .entry)) (now (gap .entry)) depth (now (stays .entry)) first (now (starts .entry)) ⌝ }
 {
     if depth == 0 {
-        return longest;
+        return first;
     }
     let last = depth - 1;
     let place = last % 32;
     if wide16(tags[place]) != last {
-        return longest;
+        return first;
     }
     let i = wide(tail[last]);
     let j = wide(head[last]);
     let old = rows[place];
-    let start = larger(old[j] + 30000, old[i] + gap[last]) - 30000;
+    let start = larger(old[j] + 1000, less(old[i] + 2000, gap[last])) - 1000;
     let mut new = old;
     new[j] = start;
     *starts = new;

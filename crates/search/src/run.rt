@@ -16,7 +16,7 @@ use model::wide16;
 use soundness::Examined;
 use soundness::examine;
 use starts::heaviest_of;
-use times::stays::longest_of;
+use times::latency::raised_latency;
 use weights::turn::store_turn;
 ghost use mathlib.Core.Path.{_≡_};
 ghost use mathlib.Core.Bool.{true, false, not, _||_};
@@ -80,7 +80,7 @@ fn taken_by_pairs(count: usize, budget: u32) -> usize
     count
 }
 
-// A sound record that has not ended, after the budget's nodes. What they work on was examined; the longest stay, the largest weight of each pair's delays,
+// A sound record that has not ended, after the budget's nodes. What they work on was examined; the latency of the earliest starts, the largest weight of each pair's delays,
 // the clashes by pairs and the turns' inequalities are found here.
 fn advance(search: Search, examined: Examined, budget: u32) -> Search
     requires { ⌜ (sound search ≡ true) × (search .ended ≡ false) ⌝ }
@@ -98,6 +98,8 @@ fn advance(search: Search, examined: Examined, budget: u32) -> Search
     let to = delays.to;
     let weights = delays.code;
     let stays = examined.stays;
+    let earliest = examined.earliest;
+    let latest = examined.latest;
     let depth = examined.depth;
     let mut turns = examined.turns;
     let m = wide(batch.m);
@@ -119,7 +121,7 @@ fn advance(search: Search, examined: Examined, budget: u32) -> Search
         delays: m,
         clashes: clashes.count,
         pairs: pairs,
-        longest: longest_of(&stays),
+        first: raised_latency(0, &stays, &earliest),
     };
     let start = Walk {
         depth: depth,
@@ -139,6 +141,8 @@ fn advance(search: Search, examined: Examined, budget: u32) -> Search
         &to,
         &code,
         &stays,
+        &earliest,
+        &latest,
         &codes,
         &pair,
         &held,
