@@ -2,7 +2,7 @@
 use Prim.Native.Nat.{ℕ, zero, suc, _+_, _*_, _≤_}
 use mathlib.Core.Path.{_≡_, refl, ap, sym, _∙_, subst}
 use mathlib.Core.Bool.{Bool, true, false}
-use mathlib.Core.Option.{some}
+use mathlib.Core.Option.{Option, some}
 use mathlib.Core.List.{List, [], _∷_, _++_}
 use native.Mathlib.Omega.{arith}
 use lib.ListN.{length, drop}
@@ -33,7 +33,9 @@ module _ {A : Type 0} (kind : ℕ) (f : List A → List ℕ → Outcome A) (file
       line c cs bytes rest d r true e rec =
           let s = bind-accepts (f before bytes) _ p e in
           let g = frame file at bytes rest (ap readLine d ∙ r) in
-          rec (before ++ (s .0 ∷ [])) (at + 2 * length bytes + 1) (omega (arith, g .inside)) p (ap (readKind kind f k (before ++ (s .0 ∷ []))) (sym (g .after)) ∙ s .2)
+          let w : _≡_ {A = Option (List ℕ × List ℕ)} (some (g .bytes, g .rest)) (some (bytes, rest)) = sym (g .is) ∙ ap readLine d ∙ r in
+          let v : _≡_ {A = List ℕ × List ℕ} (g .bytes, g .rest) (bytes, rest) = cc in
+          rec (before ++ (s .0 ∷ [])) (at + 2 * length bytes + 1) (omega (arith, g .inside)) p (ap (readKind kind f k (before ++ (s .0 ∷ []))) (sym (g .after) ∙ ap (λ (q : List ℕ × List ℕ). q .1) v) ∙ s .2)
 
       go : (rest : List ℕ) → drop at file ≡ rest → readKind kind f (suc k) before rest ≡ accept p
           → ((before : List A) (at : ℕ) → at ≤ length file → (p : List A × List ℕ) → readKind kind f k before (drop at file) ≡ accept p → Rest file (p .1)) → Rest file (p .1)

@@ -13,6 +13,7 @@ pub mod Reading
 pub mod Kind
 pub mod Told
 pub mod Places
+pub mod WindowsLaws
 pub mod Rest
 pub mod KindRest
 pub mod FurtherLaws

@@ -130,7 +130,7 @@ in-own (v ∷ ws) w h = go (ltb (v .job) (w .job)) refl h (in-own ws w)
 pub windows-more : (low : ℕ) (ws : List WindowLine) (w : WindowLine) → Lowest low ws → low ≤ w .job → w .job < 24 → set (windowsOf ws) (w .job) (placed w) ≡ windowsOf (ws ++ (w ∷ []))
 unfolding windowsOf Lowest
 windows-more low ws w lowest h m =
-    ext-getD blankWindow (set (windowsOf ws) (w .job) (placed w)) (windowsOf (ws ++ (w ∷ []))) (length-set _ _ _ ∙ size ws ∙ sym (size (ws ++ (w ∷ []))))
+    ext-getD blankWindow (set (windowsOf ws) (w .job) (placed w)) (windowsOf (ws ++ (w ∷ []))) (length-set (windowsOf ws) (w .job) (placed w) ∙ size ws ∙ sym (size (ws ++ (w ∷ []))))
     (λ i l. by i (omega (arith, size ws, length-set (windowsOf ws) (w .job) (placed w))) (ℕ-discrete (w .job) i))
   where
     size : (vs : List WindowLine) → length (windowsOf vs) ≡ 24
