@@ -40,13 +40,13 @@ pub record Behind (file : List ℕ) (n at place : ℕ) (array : List Window) : T
   pub filled : array ≡ windowsOf lines
 
 module _ (file : List ℕ) (n at : ℕ) (r : WindowsRead) (read : r ≡ windowsTold file (readWindows n (drop at file))) where
-  pub windows-refused : (k : ℕ) → r .answer ≡ Stopped k → readWindows n (drop at file) ≡ refuse k
+  pub behind-refused : (k : ℕ) → r .answer ≡ Stopped k → readWindows n (drop at file) ≡ refuse k
   unfolding windowsTold
-  windows-refused k h = next-refused file (readWindows n (drop at file)) k (sym (ap (λ (f : WindowsRead). f .answer) read) ∙ h)
+  behind-refused k h = next-refused file (readWindows n (drop at file)) k (sym (ap (λ (f : WindowsRead). f .answer) read) ∙ h)
 
-  pub windows-at : (place : ℕ) → at ≤ length file → r .answer ≡ At place → Behind file n at place (r .windows)
+  pub behind-at : (place : ℕ) → at ≤ length file → r .answer ≡ At place → Behind file n at place (r .windows)
   unfolding windowsTold readWindows valueOf
-  windows-at place l h =
+  behind-at place l h =
       let g = next-at file (readWindows n (drop at file)) place (sym (ap (λ (f : WindowsRead). f .answer) read) ∙ h) in
       let s = kind-rest 0xA3 (window n) file (length (drop at file)) [] at l (g .0) (g .1) in
       record {
@@ -108,29 +108,28 @@ unfolding isEmpty
 end-more [] l = absurd (omega arith)
 end-more (c ∷ cs) l = refl
 
-module _ (file : List ℕ) (edition n at : ℕ) where
-  -- edition 02
-  pub rest-second : (edition ≡ 1 → ⊥) → (r : FurtherRead) → r ≡ furtherTold (readFurther n (drop at file)) → r ≡ furtherTold (readRest edition n (drop at file))
+-- edition 02
+pub rest-second : (edition n : ℕ) (rest : List ℕ) → (edition ≡ 1 → ⊥) → (r : FurtherRead) → r ≡ furtherTold (readFurther n rest) → r ≡ furtherTold (readRest edition n rest)
+unfolding readRest if_then_else_
+rest-second edition n rest h r t = t ∙ ap furtherTold (rw (ne-eqb edition 1 h))
+
+-- edition 01
+module _ (file : List ℕ) (edition n at : ℕ) (first : edition ≡ 1) where
+  rest-first : readRest edition n (drop at file) ≡ (require 8 (isEmpty (drop at file)) >>= λ u. accept noFurther)
   unfolding readRest if_then_else_
-  rest-second h r t = t ∙ ap furtherTold (rw (ne-eqb edition 1 h))
+  rest-first = rw (eq-eqb edition 1 first)
 
-  module _ (first : edition ≡ 1) where
-    -- edition 01
-    rest-first : readRest edition n (drop at file) ≡ (require 8 (isEmpty (drop at file)) >>= λ u. accept noFurther)
-    unfolding readRest if_then_else_
-    rest-first = rw (eq-eqb edition 1 first)
+  -- 8: bytes after the last frame
+  pub rest-more : at < length file → (r : FurtherRead) → r ≡ furtherTold (refuse 8) → r ≡ furtherTold (readRest edition n (drop at file))
+  rest-more l r t =
+      t ∙ ap furtherTold (sym (rest-first ∙ refuses-require 8 _ (end-more (drop at file) (omega (arith, length-drop at file)))))
 
-    -- 8: bytes after the last frame
-    pub rest-more : at < length file → (r : FurtherRead) → r ≡ furtherTold (refuse 8) → r ≡ furtherTold (readRest edition n (drop at file))
-    rest-more l r t =
-        t ∙ ap furtherTold (sym (rest-first ∙ refuses-require 8 _ (end-more (drop at file) (omega (arith, length-drop at file)))))
-
-    -- nothing after it
-    pub rest-none : length file ≤ at → (windows : List Window) → windows ≡ windowsOf [] → _≡_ {A = FurtherRead} (record { answer = Accepted; windows = windows }) (furtherTold (readRest edition n (drop at file)))
-    unfolding furtherTold answerOf valueOf noFurther
-    rest-none l windows e =
-        ap (λ (x : List Window). record { answer = Accepted; windows = x }) e
-        ∙ ap furtherTold (sym (rest-first ∙ accepts-require 8 _ (end-empty (drop at file) (omega (arith, length-drop at file)))))
+  -- nothing after it
+  pub rest-none : length file ≤ at → (windows : List Window) → windows ≡ windowsOf [] → _≡_ {A = FurtherRead} (record { answer = Accepted; windows = windows }) (furtherTold (readRest edition n (drop at file)))
+  unfolding furtherTold answerOf valueOf noFurther
+  rest-none l windows e =
+      ap (λ (x : List Window). record { answer = Accepted; windows = x }) e
+      ∙ ap furtherTold (sym (rest-first ∙ accepts-require 8 _ (end-empty (drop at file) (omega (arith, length-drop at file)))))
 
 -- ---- the batch of what was read, with what follows
 
