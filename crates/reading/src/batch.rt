@@ -98,7 +98,15 @@ fn read_rest(file: &[u8], at: usize, edition: u8, n: u8) -> FurtherRead
 }
 
 // The batch of n jobs and m delays that were read, with what follows them from a place of the file.
-fn read_end(file: &[u8], at: usize, edition: u8, n: u8, m: u8, jobs: [Job; 24], delays: [Delay; 128]) -> BatchRead
+fn read_end(
+    file: &[u8],
+    at: usize,
+    edition: u8,
+    n: u8,
+    m: u8,
+    jobs: [Job; 24],
+    delays: [Delay; 128],
+) -> BatchRead
     requires { ⌜ (at ≤ length (now file)) × (n ≤ 24) ⌝ }
     ensures { λ r. ⌜ r ≡ batchTold (readEnd edition n m jobs delays (drop at (now (file .entry)))) ⌝ }
 {
@@ -111,7 +119,14 @@ fn read_end(file: &[u8], at: usize, edition: u8, n: u8, m: u8, jobs: [Job; 24], 
     let edition = word(edition);
     BatchRead {
         answer: Opening::Accepted,
-        batch: Batch { n, m, edition, jobs, delays, windows },
+        batch: Batch {
+            n,
+            m,
+            edition,
+            jobs,
+            delays,
+            windows,
+        },
     }
 }
 

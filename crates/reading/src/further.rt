@@ -61,5 +61,8 @@ pub fn read_further(file: &[u8], at: usize, n: u8) -> FurtherRead
         return further_refused(number);
     }
     let windows = first.windows;
-    FurtherRead { answer: Opening::Accepted, windows }
+    FurtherRead {
+        answer: Opening::Accepted,
+        windows,
+    }
 }

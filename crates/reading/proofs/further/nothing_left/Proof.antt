@@ -15,5 +15,5 @@ nothing-left-spec =
     (λ c. search needs)
     (λ c. left-broken _ _ (c .before .before .before .if1 .left) (line-broken _ _ _ (c .before .before .line-at .ensures) (c .enum-told .given .1)))
     (λ c.
-        let f = line-frame _ _ _ _ (c .before .before .line-at .ensures) (c .enum-told2 .given .1) in
-        left-line _ _ _ (c .before .before .before .if1 .left) (f .is)))
+    let f = line-frame _ _ _ _ (c .before .before .line-at .ensures) (c .enum-told2 .given .1) in
+    left-line _ _ _ (c .before .before .before .if1 .left) (f .is)))

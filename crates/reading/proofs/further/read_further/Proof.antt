@@ -14,22 +14,22 @@ read-further-spec =
     (λ c κs. search needs)
     -- a window is refused
     (λ c.
-        let w = c .before .before .before .before in
-        let at = w .before .before .args .at in
-        further-windows _ _ at _ _ (behind-refused (w .before .before .args .file .now) _ at _ (w .read-windows .ensures) _ (c .before .before .behind-windows2 .given .1)) (c .further-refused .ensures))
+    let w = c .before .before .before .before in
+    let at = w .before .before .args .at in
+    further-windows _ _ at _ _ (behind-refused (w .before .before .args .file .now) _ at _ (w .read-windows .ensures) _ (c .before .before .behind-windows2 .given .1)) (c .further-refused .ensures))
     (λ c κs. search needs)
     (λ c. search needs)
     (λ c κs. search needs)
     -- something is left
     (λ c.
-        let a = c .before .before .before .before in
-        let w = a .before .before .before .before in
-        let b = behind-at _ _ (w .before .before .args .at) _ (w .read-windows .ensures) _ (w .before .before .pre .0) (a .before .before .behind-windows .given .1) in
-        further-left _ _ _ b _ (a .nothing-left .ensures) _ _ (c .before .before .answer .given .1) (c .further-refused2 .ensures))
+    let a = c .before .before .before .before in
+    let w = a .before .before .before .before in
+    let b = behind-at _ _ (w .before .before .args .at) _ (w .read-windows .ensures) _ (w .before .before .pre .0) (a .before .before .behind-windows .given .1) in
+    further-left _ _ _ b _ (a .nothing-left .ensures) _ _ (c .before .before .answer .given .1) (c .further-refused2 .ensures))
     (λ c. search needs)
     -- every kind is read
     (λ c.
-        let a = c .before .before .before in
-        let w = a .before .before .before .before in
-        let b = behind-at _ _ (w .before .before .args .at) _ (w .read-windows .ensures) _ (w .before .before .pre .0) (a .before .before .behind-windows .given .1) in
-        further-read _ _ _ b _ (a .nothing-left .ensures) (c .before .enum-told .given .1)))
+    let a = c .before .before .before in
+    let w = a .before .before .before .before in
+    let b = behind-at _ _ (w .before .before .args .at) _ (w .read-windows .ensures) _ (w .before .before .pre .0) (a .before .before .behind-windows .given .1) in
+    further-read _ _ _ b _ (a .nothing-left .ensures) (c .before .enum-told .given .1)))

@@ -33,58 +33,65 @@ read-windows-spec =
     (λ c κs. search needs)
     -- no line
     (λ c.
-        let b = c .before .before .before in
-        windows-broken _ _ _ (b .before .before .loop .inv .1) (b .before .loop-test .taken) (line-broken _ _ _ (b .line-at .ensures) (c .before .enum-told .given .1)) _ (c .refused .ensures))
+    let b = c .before .before .before in
+    windows-broken _ _ _ (b .before .before .loop .inv .1) (b .before .loop-test .taken) (line-broken _ _ _ (b .line-at .ensures) (c .before .enum-told .given .1)) _ (c .refused .ensures))
     (λ c. omega (arith, (line-frame _ _ _ _ (c .before .before .before .line-at .ensures) (c .before .line .given .1)) .size))
     (λ c κs.
-        let i = framed-inside (line-frame _ _ _ _ (c .before .before .before .line-at .ensures) (c .before .line .given .1)) _ refl in
-        (i, omega (arith, i .full)))
+    let i = framed-inside (line-frame _ _ _ _ (c .before .before .before .line-at .ensures) (c .before .line .given .1)) _ refl in
+    (i, omega (arith, i .full)))
     -- a line of another kind
     (λ c.
-        let b = c .before .before .before in
-        let f = line-frame _ _ _ _ (b .before .before .line-at .ensures) (b .line .given .1) in
-        windows-other _ _ _ (b .before .before .before .before .loop .inv .1) (b .before .before .before .loop-test .taken) f _ refl _ (c .before .frame-byte .ensures) (c .if1 .taken))
+    let b = c .before .before .before in
+    let f = line-frame _ _ _ _ (b .before .before .line-at .ensures) (b .line .given .1) in
+    windows-other _ _ _ (b .before .before .before .before .loop .inv .1) (b .before .before .before .loop-test .taken) f _ refl _ (c .before .frame-byte .ensures) (c .if1 .taken))
     (λ c κs.
-        let b = c .before .before .before in
-        framed-inside (line-frame _ _ _ _ (b .before .before .line-at .ensures) (b .line .given .1)) _ refl)
+    let b = c .before .before .before in
+    framed-inside (line-frame _ _ _ _ (b .before .before .line-at .ensures) (b .line .given .1)) _ refl)
     (λ c. search needs)
     (λ c κs. search needs)
     -- a window that is refused
     (λ c.
-        let d = c .before .before .before .before in
-        let b = d .before .before .before .before in
-        let f = line-frame _ _ _ _ (b .before .before .line-at .ensures) (b .line .given .1) in
-        windows-refused _ _ _ (b .before .before .before .before .loop .inv .1) (b .before .before .before .loop-test .taken) f _ refl _ (d .before .before .frame-byte .ensures) (d .before .if1 .left)
-        _ (d .window-frame .ensures) _ (c .before .before .frame .given .1) _ (c .refused2 .ensures))
+    let d = c .before .before .before .before in
+    let b = d .before .before .before .before in
+    let f = line-frame _ _ _ _ (b .before .before .line-at .ensures) (b .line .given .1) in
+    windows-refused _ _ _ (b .before .before .before .before .loop .inv .1) (b .before .before .before .loop-test .taken) f _ refl _ (d .before .before .frame-byte .ensures) (d .before .if1 .left)
+    _ (d .window-frame .ensures) _ (c .before .before .frame .given .1) _ (c .refused2 .ensures))
     (λ c. search needs)
     (λ c κs. search needs)
     (λ c. search needs)
     -- its job is below n
     (λ c.
-        let d = c .before .before .before .before in
-        let b = d .before .before .before .before in
-        let f = line-frame _ _ _ _ (b .before .before .line-at .ensures) (b .line .given .1) in
-        omega (arith, windows-job _ _ _ (b .before .before .before .before .loop .inv .1) (b .before .before .before .loop-test .taken) f _ refl _ (d .before .before .frame-byte .ensures) (d .before .if1 .left)
-            _ (d .window-frame .ensures) _ _ (c .before .before .frame2 .given .1), b .before .before .before .before .before .before .pre .1, c .wide .ensures .0))
+    let d = c .before .before .before .before in
+    let b = d .before .before .before .before in
+    let f = line-frame _ _ _ _ (b .before .before .line-at .ensures) (b .line .given .1) in
+    omega (
+      arith,
+      windows-job _ _ _ (b .before .before .before .before .loop .inv .1) (b .before .before .before .loop-test .taken) f _ refl _ (d .before .before .frame-byte .ensures) (d .before .if1 .left)
+          _ (d .window-frame .ensures) _ _ (c .before .before .frame2 .given .1),
+      b .before .before .before .before .before .before .pre .1,
+      c .wide .ensures .0,
+    ))
     (λ c.
-        let d = c .before .before .before .before in
-        let b = d .before .before .before .before in
-        let f = line-frame _ _ _ _ (b .before .before .line-at .ensures) (b .line .given .1) in
-        omega (arith, windows-job _ _ _ (b .before .before .before .before .loop .inv .1) (b .before .before .before .loop-test .taken) f _ refl _ (d .before .before .frame-byte .ensures) (d .before .if1 .left)
-            _ (d .window-frame .ensures) _ _ (c .before .before .frame2 .given .1)))
+    let d = c .before .before .before .before in
+    let b = d .before .before .before .before in
+    let f = line-frame _ _ _ _ (b .before .before .line-at .ensures) (b .line .given .1) in
+    omega (
+      arith,
+      windows-job _ _ _ (b .before .before .before .before .loop .inv .1) (b .before .before .before .loop-test .taken) f _ refl _ (d .before .before .frame-byte .ensures) (d .before .if1 .left)
+          _ (d .window-frame .ensures) _ _ (c .before .before .frame2 .given .1),
+    ))
     (λ c. omega (arith, (line-frame _ _ _ _ (c .before .before .before .before .before .before .before .before .before .before .line-at .ensures) (c .before .before .before .before .before .before .before .before .line .given .1)) .inside))
     (λ c.
-        let b = c .before .before .before .before .before .before .before .before in
-        let f = line-frame _ _ _ _ (b .before .before .line-at .ensures) (b .line .given .1) in
-        omega (arith, f .size, f .inside))
+    let b = c .before .before .before .before .before .before .before .before in
+    let f = line-frame _ _ _ _ (b .before .before .line-at .ensures) (b .line .given .1) in
+    omega (arith, f .size, f .inside))
     -- one window more
     (λ c.
-        let d = c .before .before .before .before in
-        let b = d .before .before .before .before in
-        let f = line-frame _ _ _ _ (b .before .before .line-at .ensures) (b .line .given .1) in
-        (
-          omega (arith, f .inside),
-          windows-next _ _ _ (b .before .before .before .before .loop .inv .1) (b .before .before .before .loop-test .taken) f _ refl _ (d .before .before .frame-byte .ensures) (d .before .if1 .left)
-              _ (d .window-frame .ensures) _ _ (c .before .before .frame2 .given .1) (b .before .before .before .before .before .before .pre .1) _ (c .wide .ensures .0),
-        ))
+    let d = c .before .before .before .before in
+    let b = d .before .before .before .before in
+    let f = line-frame _ _ _ _ (b .before .before .line-at .ensures) (b .line .given .1) in (
+      omega (arith, f .inside),
+      windows-next _ _ _ (b .before .before .before .before .loop .inv .1) (b .before .before .before .loop-test .taken) f _ refl _ (d .before .before .frame-byte .ensures) (d .before .if1 .left)
+          _ (d .window-frame .ensures) _ _ (c .before .before .frame2 .given .1) (b .before .before .before .before .before .before .pre .1) _ (c .wide .ensures .0),
+    ))
     (λ c. windows-over _ _ _ (c .before .loop .inv .1) (c .before .loop .inv .0) (c .loop-test .left)))
