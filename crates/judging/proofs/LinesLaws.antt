@@ -20,7 +20,7 @@ use Rattle.model.proofs.OutcomeLaws.{accepts-bind}
 use Rattle.model.proofs.ListLaws.{count-length}
 use Rattle.model.proofs.SeqLaws.{count-snoc, map-snoc, pad-put}
 use Rattle.model.proofs.ClaimLaws.{lines-none, lines-stop, lines-more}
-use Rattle.opening.proofs.Tests.{refuses-bind}
+use Rattle.reading.proofs.Tests.{refuses-bind}
 use Rattle.judging.specs.declared.job_lines.Lines.{Lines}
 use Rattle.judging.specs.JobLines.{stored, linesTold}
 

@@ -15,10 +15,10 @@ use Rattle.model.specs.Judge.{claimHead, claimLine}
 use Rattle.model.proofs.BoolLaws.{and, and-false, passes, fails}
 use Rattle.model.proofs.OutcomeLaws.{accepts-require}
 use Rattle.lines.proofs.Framed.{Framed}
-use Rattle.opening.specs.Frame.{frameAt, Inside}
-use Rattle.opening.proofs.Tests.{refuses-require}
-use Rattle.opening.proofs.Bytes.{frame-size, framed-inside}
-use Rattle.opening.proofs.One.{one-refused, one-read}
+use Rattle.reading.specs.Frame.{frameAt, Inside}
+use Rattle.reading.proofs.Tests.{refuses-require}
+use Rattle.reading.proofs.Bytes.{frame-size, framed-inside}
+use Rattle.reading.proofs.One.{one-refused, one-read}
 use Rattle.judging.specs.declared.claim.Head.{Head}
 use Rattle.judging.specs.declared.claim.Head.the-variants.{Read, Broken}
 use Rattle.judging.specs.declared.claim.JobLine.{JobLine}

@@ -1,9 +1,9 @@
 // The lines of a plan text where they stand: the B0 line, and a B1 line.
 use lines::Line;
 use lines::line_at;
-use opening::frame::frame_byte;
-use opening::frame::frame_is;
-use opening::frame::frame_wide;
+use reading::frame::frame_byte;
+use reading::frame::frame_is;
+use reading::frame::frame_wide;
 ghost use Prim.Native.Nat.{_≤_};
 ghost use lib.ListN.{length};
 ghost use Rattle.judging.specs.Claim.{ReadsHead, ReadsJob};

@@ -1,10 +1,10 @@
 // Opening a batch file: the fresh search of its batch, or the first refusal.
-use crate::batch::blank_batch;
-use crate::batch::read_batch;
 use crate::few::few_clashes;
 use model::Opened;
 use model::Opening;
 use model::fresh;
+use reading::blank_batch;
+use reading::read_batch;
 use starts::met::delays_met;
 ghost use mathlib.Core.Path.{_≡_};
 ghost use Rattle.model.specs.Common.{refuse};

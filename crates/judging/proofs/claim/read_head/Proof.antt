@@ -3,7 +3,7 @@ use native.Mathlib.Omega.{arith}
 use mathlib.Core.Path.{refl}
 use borrow.Author.Needs.{needs}
 use Rattle.lines.proofs.Framed.{line-frame, line-broken}
-use Rattle.opening.proofs.Bytes.{framed-inside}
+use Rattle.reading.proofs.Bytes.{framed-inside}
 use Rattle.judging.proofs.ReadLaws.{head-none, head-other, head-place, head-edition, head-read}
 use Rattle.judging.proofs.claim.read_head.Statement.{statement}
 use Rattle.judging.proofs.claim.read_head.Tie as tie

@@ -3,7 +3,7 @@ use native.Mathlib.Omega.{arith}
 use mathlib.Core.Path.{refl}
 use borrow.Author.Needs.{needs}
 use Rattle.lines.proofs.Framed.{line-frame, line-broken}
-use Rattle.opening.proofs.Bytes.{framed-inside}
+use Rattle.reading.proofs.Bytes.{framed-inside}
 use Rattle.judging.proofs.ReadLaws.{job-none, job-other, job-place, job-read}
 use Rattle.judging.proofs.claim.read_job.Statement.{statement}
 use Rattle.judging.proofs.claim.read_job.Tie as tie

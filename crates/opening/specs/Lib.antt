@@ -1,4 +1,0 @@
--- What the contracts of opening cite: the bytes of a frame where it stands, and the answers of the steps for what the definitions read.
-pub mod Answer
-pub mod Frame
-pub mod Read

@@ -1,0 +1,151 @@
+-- What follows the delays: what is read of it by its edition, kind after kind, and the end of the file.
+use Prim.Native.Nat.{ℕ, _≤_, _<_}
+use mathlib.Core.Path.{_≡_, refl, ap, ap₂, sym, _∙_}
+use mathlib.Core.Bool.{true, false}
+use mathlib.Core.Option.{none, some}
+use mathlib.Core.List.{List, [], _∷_}
+use native.Mathlib.Omega.{arith}
+use lib.ListN.{length, drop, length-drop, drop-of-length-le}
+use borrow.Author.Tests.{eq-eqb, ne-eqb}
+use Rattle.model.specs.declared.Job.{Job}
+use Rattle.model.specs.declared.Delay.{Delay}
+use Rattle.model.specs.declared.Window.{Window}
+use Rattle.model.specs.declared.Opening.{Opening}
+use Rattle.model.specs.declared.Opening.the-variants.{Accepted, Refused}
+use Rattle.model.specs.Common.{if_then_else_, isEmpty, Outcome, refuse, accept, _>>=_, require, given}
+use Rattle.model.specs.Line.{readLine}
+use Rattle.model.specs.Window.{WindowLine, windowsOf, window}
+use Rattle.model.specs.Format.{Further, noFurther}
+use Rattle.model.specs.Open.{nothingLeft, readFurther, readRest}
+use Rattle.model.proofs.OutcomeLaws.{accepts-bind, accepts-require}
+use Rattle.reading.specs.declared.Next.the-variants.{At, Refused as Stopped}
+use Rattle.reading.specs.declared.windows.WindowsRead.{WindowsRead}
+use Rattle.reading.specs.declared.further.FurtherRead.{FurtherRead}
+use Rattle.reading.specs.declared.batch.BatchRead.{BatchRead}
+use Rattle.reading.specs.Answer.{answerOf, valueOf, placeOf, nextOf}
+use Rattle.reading.specs.Window.{readWindows, windowsTold}
+use Rattle.reading.specs.Further.{furtherTold}
+use Rattle.reading.specs.Read.{batchTold, batchWith, readEnd}
+use Rattle.reading.proofs.Tests.{refuses-bind, refuses-require}
+use Rattle.reading.proofs.Told.{answer-refused, answer-accepted, next-refused, next-at}
+use Rattle.reading.proofs.KindRest.{kind-rest}
+
+-- ---- the windows, by the answer of `read_windows`
+
+-- the lines that were read, the place behind them, and the array that they fill
+pub record Behind (file : List ℕ) (n at place : ℕ) (array : List Window) : Type 0 where
+  pub lines : List WindowLine
+  pub is : readWindows n (drop at file) ≡ accept (lines, drop place file)
+  pub inside : place ≤ length file
+  pub filled : array ≡ windowsOf lines
+
+module _ (file : List ℕ) (n at : ℕ) (r : WindowsRead) (read : r ≡ windowsTold file (readWindows n (drop at file))) where
+  pub behind-refused : (k : ℕ) → r .answer ≡ Stopped k → readWindows n (drop at file) ≡ refuse k
+  unfolding windowsTold
+  behind-refused k h = next-refused file (readWindows n (drop at file)) k (sym (ap (λ (f : WindowsRead). f .answer) read) ∙ h)
+
+  pub behind-at : (place : ℕ) → at ≤ length file → r .answer ≡ At place → Behind file n at place (r .windows)
+  unfolding windowsTold readWindows valueOf
+  behind-at place l h =
+      let g = next-at file (readWindows n (drop at file)) place (sym (ap (λ (f : WindowsRead). f .answer) read) ∙ h) in
+      let s = kind-rest 0xA3 (window n) file (length (drop at file)) [] at l (g .0) (g .1) in
+      record {
+        lines = g .0 .0;
+        is = g .1 ∙ ap (λ (t : List ℕ). accept (g .0 .0, t)) (s .is ∙ ap (λ (i : ℕ). drop i file) (g .2));
+        inside = omega (arith, s .inside, g .2);
+        filled = ap (λ (f : WindowsRead). f .windows) read ∙ ap (λ (o : Outcome (List WindowLine × List ℕ)). windowsOf (valueOf ([], []) o .0)) (g .1);
+      }
+
+-- ---- the end of the file
+
+pub left-none : (file : List ℕ) (at : ℕ) → length file ≤ at → Accepted ≡ answerOf (nothingLeft (drop at file))
+unfolding nothingLeft answerOf
+left-none file at l = ap (λ (s : List ℕ). answerOf (nothingLeft s)) (sym (drop-of-length-le file l))
+
+left-by : (rest : List ℕ) → 0 < length rest → nothingLeft rest ≡ (given 1 (readLine rest) >>= λ u. refuse 2)
+unfolding nothingLeft
+left-by [] l = absurd (omega arith)
+left-by (c ∷ cs) l = refl
+
+pub left-broken : (file : List ℕ) (at : ℕ) → at < length file → readLine (drop at file) ≡ none → Refused 1 ≡ answerOf (nothingLeft (drop at file))
+unfolding answerOf given
+left-broken file at l e = ap answerOf (sym (left-by (drop at file) (omega (arith, length-drop at file)) ∙ refuses-bind _ (ap (given 1) e)))
+
+pub left-line : (file : List ℕ) (at : ℕ) (p : List ℕ × List ℕ) → at < length file → readLine (drop at file) ≡ some p → Refused 2 ≡ answerOf (nothingLeft (drop at file))
+unfolding answerOf given
+left-line file at p l e = ap answerOf (sym (left-by (drop at file) (omega (arith, length-drop at file)) ∙ accepts-bind _ (ap (given 1) e)))
+
+-- ---- kind after kind
+
+module _ (file : List ℕ) (n at : ℕ) where
+  -- a window is refused
+  pub further-windows : (k : ℕ) (r : FurtherRead) → readWindows n (drop at file) ≡ refuse k → r ≡ furtherTold (refuse k) → r ≡ furtherTold (readFurther n (drop at file))
+  unfolding readFurther readWindows
+  further-windows k r e t = t ∙ ap furtherTold (sym (refuses-bind _ e))
+
+  module _ {place : ℕ} {array : List Window} (w : Behind file n at place array) (a : Opening) (left : a ≡ answerOf (nothingLeft (drop place file))) where
+    -- something is left
+    pub further-left : (k : ℕ) (r : FurtherRead) → a ≡ Refused k → r ≡ furtherTold (refuse k) → r ≡ furtherTold (readFurther n (drop at file))
+    unfolding readFurther readWindows
+    further-left k r h t = t ∙ ap furtherTold (sym (accepts-bind _ (w .is) ∙ refuses-bind _ (answer-refused _ k (sym left ∙ h))))
+
+    -- the lines of every kind
+    pub further-read : a ≡ Accepted → _≡_ {A = FurtherRead} (record { answer = Accepted; windows = array }) (furtherTold (readFurther n (drop at file)))
+    unfolding readFurther readWindows furtherTold answerOf valueOf
+    further-read h =
+        ap (λ (x : List Window). record { answer = Accepted; windows = x }) (w .filled)
+        ∙ ap furtherTold (sym (accepts-bind _ (w .is) ∙ accepts-bind _ (answer-accepted _ tt (sym left ∙ h))))
+
+-- ---- by the edition
+
+end-empty : (rest : List ℕ) → length rest ≤ 0 → isEmpty rest ≡ true
+unfolding isEmpty
+end-empty [] l = refl
+end-empty (c ∷ cs) l = absurd (omega arith)
+
+end-more : (rest : List ℕ) → 0 < length rest → isEmpty rest ≡ false
+unfolding isEmpty
+end-more [] l = absurd (omega arith)
+end-more (c ∷ cs) l = refl
+
+-- edition 02
+pub rest-second : (edition n : ℕ) (rest : List ℕ) → (edition ≡ 1 → ⊥) → (r : FurtherRead) → r ≡ furtherTold (readFurther n rest) → r ≡ furtherTold (readRest edition n rest)
+unfolding readRest if_then_else_
+rest-second edition n rest h r t = t ∙ ap furtherTold (rw (ne-eqb edition 1 h))
+
+-- edition 01
+module _ (file : List ℕ) (edition n at : ℕ) (first : edition ≡ 1) where
+  rest-first : readRest edition n (drop at file) ≡ (require 8 (isEmpty (drop at file)) >>= λ u. accept noFurther)
+  unfolding readRest if_then_else_
+  rest-first = rw (eq-eqb edition 1 first)
+
+  -- 8: bytes after the last frame
+  pub rest-more : at < length file → (r : FurtherRead) → r ≡ furtherTold (refuse 8) → r ≡ furtherTold (readRest edition n (drop at file))
+  rest-more l r t =
+      t ∙ ap furtherTold (sym (rest-first ∙ refuses-require 8 _ (end-more (drop at file) (omega (arith, length-drop at file)))))
+
+  -- nothing after it
+  pub rest-none : length file ≤ at → (windows : List Window) → windows ≡ windowsOf [] → _≡_ {A = FurtherRead} (record { answer = Accepted; windows = windows }) (furtherTold (readRest edition n (drop at file)))
+  unfolding furtherTold answerOf valueOf noFurther
+  rest-none l windows e =
+      ap (λ (x : List Window). record { answer = Accepted; windows = x }) e
+      ∙ ap furtherTold (sym (rest-first ∙ accepts-require 8 _ (end-empty (drop at file) (omega (arith, length-drop at file)))))
+
+-- ---- the batch of what was read, with what follows
+
+module _ (edition n m : ℕ) (jobs : List Job) (delays : List Delay) (rest : List ℕ) (f : FurtherRead) (read : f ≡ furtherTold (readRest edition n rest)) where
+  answer-is : f .answer ≡ answerOf (readRest edition n rest)
+  unfolding furtherTold
+  answer-is = ap (λ (x : FurtherRead). x .answer) read
+
+  -- what follows is refused
+  pub end-refused : (k : ℕ) → f .answer ≡ Refused k → (r : BatchRead) → r ≡ batchTold (refuse k) → r ≡ batchTold (readEnd edition n m jobs delays rest)
+  unfolding readEnd
+  end-refused k h r t = t ∙ ap batchTold (sym (refuses-bind _ (answer-refused _ k (sym answer-is ∙ h))))
+
+  -- the batch
+  pub end-read : f .answer ≡ Accepted → (word : ℕ) → word ≡ edition → _≡_ {A = BatchRead} (record { answer = Accepted; batch = record { n = n; m = m; edition = word; jobs = jobs; delays = delays; windows = f .windows } }) (batchTold (readEnd edition n m jobs delays rest))
+  unfolding readEnd batchTold batchWith furtherTold answerOf valueOf
+  end-read h word e =
+      ap₂ (λ (x : ℕ) (y : List Window). record { answer = Accepted; batch = record { n = n; m = m; edition = x; jobs = jobs; delays = delays; windows = y } }) e (ap (λ (x : FurtherRead). x .windows) read)
+      ∙ ap batchTold (sym (accepts-bind _ (answer-accepted (readRest edition n rest) noFurther (sym answer-is ∙ h))))

@@ -1,0 +1,35 @@
+-- `read_further` reads kind after kind, and asks for the end of the file.
+use borrow.Author.Needs.{needs}
+use Rattle.reading.proofs.FurtherLaws.{behind-refused, behind-at, further-windows, further-left, further-read}
+use Rattle.reading.proofs.further.read_further.Statement.{statement}
+use Rattle.reading.proofs.further.read_further.Tie as tie
+
+pub read-further-spec : {M : Type 1} → statement M
+read-further-spec =
+    tie.close
+    (tie.spec
+    (λ c κs. search needs)
+    (λ c. search needs)
+    (λ c. search needs)
+    (λ c κs. search needs)
+    -- a window is refused
+    (λ c.
+    let w = c .before .before .before .before in
+    let at = w .before .before .args .at in
+    further-windows _ _ at _ _ (behind-refused (w .before .before .args .file .now) _ at _ (w .read-windows .ensures) _ (c .before .before .behind-windows2 .given .1)) (c .further-refused .ensures))
+    (λ c κs. search needs)
+    (λ c. search needs)
+    (λ c κs. search needs)
+    -- something is left
+    (λ c.
+    let a = c .before .before .before .before in
+    let w = a .before .before .before .before in
+    let b = behind-at _ _ (w .before .before .args .at) _ (w .read-windows .ensures) _ (w .before .before .pre .0) (a .before .before .behind-windows .given .1) in
+    further-left _ _ _ b _ (a .nothing-left .ensures) _ _ (c .before .before .answer .given .1) (c .further-refused2 .ensures))
+    (λ c. search needs)
+    -- every kind is read
+    (λ c.
+    let a = c .before .before .before in
+    let w = a .before .before .before .before in
+    let b = behind-at _ _ (w .before .before .args .at) _ (w .read-windows .ensures) _ (w .before .before .pre .0) (a .before .before .behind-windows .given .1) in
+    further-read _ _ _ b _ (a .nothing-left .ensures) (c .before .enum-told .given .1)))
