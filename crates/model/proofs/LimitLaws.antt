@@ -105,7 +105,7 @@ within-limits b w =
       counts = counts-iff (b .n) (b .m) .1 (w .jobs, w .delays);
       ticks-each = λ i h. ticks-iff (ticks b i) .1 (w .ticks-each i h);
       masks-each = w .masks-each;
-      jobs-each = λ q k. jobs-iff (b .n) q .1 (w .ends-each q k);
+      jobs-each = λ q k. jobs-iff (b .n) q .1 (w .jobs-each q k);
       weights-each = λ q k. weight-iff q .1 (w .weight-each q k);
     }
 
@@ -120,6 +120,6 @@ limits-within b l =
       delays = c .1;
       ticks-each = λ i h. ticks-iff (ticks b i) .0 (l .ticks-each i h);
       masks-each = l .masks-each;
-      ends-each = λ q k. jobs-iff (b .n) q .0 (l .jobs-each q k);
+      jobs-each = λ q k. jobs-iff (b .n) q .0 (l .jobs-each q k);
       weight-each = λ q k. weight-iff q .0 (l .weights-each q k);
     }

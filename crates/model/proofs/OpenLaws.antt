@@ -70,7 +70,7 @@ met-starts b in-b = (there (leastStarts first last (delaysOf b)) refl, back)
 
 within-inside : (b : Batch) → Within b → Inside (b .n) (delaysOf b)
 unfolding Inside
-within-inside b w q m = let e = w .ends-each q m in (e .0, e .1)
+within-inside b w q m = let e = w .jobs-each q m in (e .0, e .1)
 
 -- so it is in every record: a batch that passes 4, 5, 6 and 9, and whose edition and further lines are sound, is sound exactly when some starts keep its
 -- delays and ends

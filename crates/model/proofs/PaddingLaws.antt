@@ -102,7 +102,7 @@ module _ (b : Batch) (w : Within b) (more : ℕ → ℕ) (room : (i : ℕ) → i
         delays = omega (arith, delays-length b, w .delays);
         ticks-each = λ i h. let l : i < b .n = omega (arith, n-same) in (omega (arith, ticks-at i l, w .ticks-each i l .0), omega (arith, ticks-at i l, room i l));
         masks-each = λ i a h g. mask-small i a (omega (arith, n-same));
-        ends-each = λ q k. let e = w .ends-each q (subst (List·Memᴰ q) delays-same k) in (omega (arith, n-same, e .0), omega (arith, n-same, e .1), e .2);
+        jobs-each = λ q k. let e = w .jobs-each q (subst (List·Memᴰ q) delays-same k) in (omega (arith, n-same, e .0), omega (arith, n-same, e .1), e .2);
         weight-each = λ q k. w .weight-each q (subst (List·Memᴰ q) delays-same k);
       }
     where

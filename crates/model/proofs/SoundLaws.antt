@@ -23,8 +23,8 @@ use Rattle.model.specs.Plan.{start, latency}
 use Rattle.model.specs.Clash.{Clash, clashes}
 use Rattle.model.specs.Search.{Incumbent, Place, startsAt, firstMet, becomeBest, next, empty, isTurn, turnsOf, placeOf, searchOf, node, nodesOn, nodes}
 use Rattle.model.specs.Open.{countsOk, ticksOk, jobsOk, weightOk, fewClashes, delaysMet}
-use Rattle.model.specs.Window.{windowLines, windowOk}
-use Rattle.model.specs.Format.{Further, furtherOf, noFurther, Edition}
+use Rattle.model.specs.Window.{windowOk}
+use Rattle.model.specs.Format.{Further, furtherOf, noFurther, hasNone, Edition}
 use Rattle.model.specs.Sound.{soundEdition, soundFurther, soundBatch, distinct, soundTurns, soundPath, soundBest, sound}
 use Rattle.model.proofs.BoolLaws.{apart, both, and}
 use Rattle.model.proofs.ListLaws.{any-some, some-any, all-each, each-all, map-some, count-some, some-count}
@@ -68,9 +68,9 @@ passes-sound b p =
 
 -- an edition that the format knows, with the further lines that it may have
 pub edition-sound : (b : Batch) → Edition b → soundEdition b ≡ true
-unfolding soundEdition Edition furtherOf noFurther isEmpty
-edition-sound b (inl e) = ap₂ (λ (x : ℕ) (f : Further). eqb x 2 || (eqb x 1 && isEmpty (f .windows))) (e .0) (e .1)
-edition-sound b (inr e) = ap (λ (x : ℕ). eqb x 2 || (eqb x 1 && isEmpty (windowLines b))) e
+unfolding soundEdition Edition hasNone noFurther isEmpty
+edition-sound b (inl e) = ap₂ (λ (x : ℕ) (f : Further). eqb x 2 || (eqb x 1 && hasNone f)) (e .0) (e .1)
+edition-sound b (inr e) = ap (λ (x : ℕ). eqb x 2 || (eqb x 1 && hasNone (furtherOf b))) e
 
 pub passes-fit : (b : Batch) → Passes b → Fits b
 unfolding countsOk ticksOk jobsOk weightOk fewClashes between soundFurther

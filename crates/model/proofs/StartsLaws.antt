@@ -1,9 +1,9 @@
 -- Least starts: they keep the inequalities, no solution has a smaller start, and they exist where there is a solution.
 use Prim.Native.Nat.{ℕ, zero, suc, _+_, _≤_, _<_, max, pred}
 use mathlib.Core.Path.{_≡_, refl, ap, ap₂, sym, _∙_, subst}
-use mathlib.Core.Logic.{_⊎_, inl, inr}
+use mathlib.Core.Logic.{_⊎_, inl, inr, _↔_}
 use mathlib.Core.Bool.{Bool, true, false, _&&_}
-use mathlib.Core.Option.{none, some}
+use mathlib.Core.Option.{Option, none, some}
 use mathlib.Core.List.{List, [], _∷_, map, List·Memᴰ, List·Memᴰ·head, List·Memᴰ·tail, List·Memᴰ·not-nil, List·Memᴰ·cases-cons, List·Memᴰ·eq-of-singleton}
 use native.Mathlib.Omega.{arith}
 use native.Mathlib.Nat.{le-refl, le-of-eq}
@@ -12,12 +12,12 @@ use lib.ListN.{length, getD, length-map, List·getD-eq-default}
 use lib.Dec.{leb, eqb}
 use lib.Seq.{ext-getD}
 use borrow.Author.Tests.{leb-true, le-leb, eqb-true, eqb-false, eq-eqb}
-use Rattle.model.specs.Common.{count, all, if_then_else_}
+use Rattle.model.specs.Common.{count, all, isSome, if_then_else_}
 use Rattle.model.specs.declared.Delay.{Delay}
 use Rattle.model.specs.declared.Batch.{Batch}
 use Rattle.model.specs.Batch.{earliest, latest, earliestStarts, latestStarts}
 use Rattle.model.specs.Plan.{start, Keeps, KeepsEnds}
-use Rattle.model.specs.Starts.{plus, raised, rounds, same, inTime, leastStarts}
+use Rattle.model.specs.Starts.{plus, raised, rounds, same, inTime, leastStarts, Solution, Least}
 use Rattle.model.proofs.PlusLaws.{plus-mono, plus-shift, plus-le, le-plus}
 use Rattle.model.proofs.BoolLaws.{apart, both, and}
 use Rattle.model.proofs.ListLaws.{count-length, all-each, each-all, count-some, some-count}
@@ -338,12 +338,6 @@ same-refl (x ∷ xs) = rw (eq-eqb x x refl, same-refl xs)
 unfoldable pub Inside : ℕ → List Delay → Type 0
 Inside n qs = (q : Delay) → List·Memᴰ q qs → (q .from < n) × (q .to < n)
 
--- starts that keep the inequalities and both ends of every job
-pub record Solution (first last : List ℕ) (qs : List Delay) (us : List ℕ) : Type 0 where
-  pub keeps : (q : Delay) → List·Memᴰ q qs → Keeps us q
-  pub above : (j : ℕ) → j < length first → getD first j 0 ≤ start us j
-  pub below : (j : ℕ) → j < length first → start us j ≤ getD last j 0
-
 module _ (first last : List ℕ) (qs : List Delay) where
   -- past the jobs nothing has an earliest start
   pub above-each : (us : List ℕ) → Solution first last qs us → (j : ℕ) → getD first j 0 ≤ start us j
@@ -447,6 +441,28 @@ module _ (first last : List ℕ) (qs : List Delay) where
           (λ j m.
           let h : j < n = omega (arith, count-some 0 (length (rounds qs first n)) j m .1, rounds-length qs first n) in
           le-leb (getD (rounds qs first n) j 0) (getD last j 0) (omega (arith, after-below qs first (start us) (solution-solves us s) n j, s .below j h)))
+
+  -- ---- so they are the least solution, and there are some exactly where there is a solution
+
+  pub least-iff : Inside n qs → (ts : List ℕ) → (leastStarts first last qs ≡ some ts) ↔ Least first last qs ts
+  unfolding start
+  least-iff inside ts = (
+    λ e. record { long = least-length ts e; solution = least-solution inside ts e; below = least-below ts e },
+    λ l.
+        let found = least-found inside ts (l .solution) in
+        let least = rounds qs first n in
+        found ∙ ap some
+        (ext-getD 0 least ts (rounds-length qs first n ∙ sym (l .long))
+        (λ j h. omega (arith, least-below least found ts (l .solution) j, l .below least (least-solution inside least found) j))),
+  )
+
+  pub least-exists : Inside n qs → (isSome (leastStarts first last qs) ≡ true) ↔ ((us : List ℕ) × Solution first last qs us)
+  unfolding isSome
+  least-exists inside = (there (leastStarts first last qs) refl, λ (us, s). ap isSome (least-found inside us s))
+    where
+      there : (o : Option (List ℕ)) → leastStarts first last qs ≡ o → isSome o ≡ true → (us : List ℕ) × Solution first last qs us
+      there none e h = apart h
+      there (some ts) e h = (ts, least-solution inside ts e)
 
 -- ---- those of a batch's jobs
 

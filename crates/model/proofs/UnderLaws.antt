@@ -20,14 +20,14 @@ use Rattle.model.specs.Common.{count, all, if_then_else_}
 use Rattle.model.specs.Batch.{delaysOf, earliestStarts, latestStarts}
 use Rattle.model.specs.Plan.{start, Keeps, latency}
 use Rattle.model.specs.Clash.{Clash, clashes}
-use Rattle.model.specs.Starts.{plus, raised, rounds, inTime, leastStarts}
+use Rattle.model.specs.Starts.{plus, raised, rounds, inTime, leastStarts, Solution}
 use Rattle.model.specs.declared.Turn.{Turn}
 use Rattle.model.specs.Limits.{mostLatency}
 use Rattle.model.specs.Search.{Place, turned, inequalities, startsAt, back, prunes, visit}
 use Rattle.model.proofs.BoolLaws.{apart}
 use Rattle.model.proofs.ListLaws.{all-each, each-all, count-some, some-count}
 use Rattle.model.proofs.PlusLaws.{plus-mono, plus-le, le-plus}
-use Rattle.model.proofs.StartsLaws.{Inside, Solves, reach, raised-in, after, rounds-length, after-suc, after-rises, after-mono, after-below, settles, Solution, above-each, least-length, least-solution, least-below, least-found, inside-ends}
+use Rattle.model.proofs.StartsLaws.{Inside, Solves, reach, raised-in, after, rounds-length, after-suc, after-rises, after-mono, after-below, settles, above-each, least-length, least-solution, least-below, least-found, inside-ends}
 use Rattle.model.proofs.FinishLaws.{latency-mono}
 use Rattle.model.proofs.NodeLaws.{Fits, Named, at-solved}
 use Rattle.model.proofs.BoundLaws.{latency-bound}

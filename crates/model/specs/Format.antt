@@ -2,6 +2,7 @@
 -- batch within the limits.
 use Prim.Native.Nat.{ℕ, _-_, _≤_, _<_}
 use mathlib.Core.Path.{_≡_}
+use mathlib.Core.Bool.{Bool}
 use mathlib.Core.Logic.{_⊎_, _≢_}
 use mathlib.Core.List.{List, [], _∷_, _++_, List·Memᴰ, map}
 use lib.ListN.{length, getD}
@@ -10,7 +11,7 @@ use lib.Signed.{_≤ℤ_}
 use Rattle.model.specs.declared.Delay.{Delay}
 use Rattle.model.specs.declared.Job.{Job}
 use Rattle.model.specs.declared.Batch.{Batch}
-use Rattle.model.specs.Common.{count, joined, pad}
+use Rattle.model.specs.Common.{count, joined, pad, isEmpty}
 use Rattle.model.specs.Limits.{mostJobs, mostDelays, mostTicks, mostWeight, mostClashes}
 use Rattle.model.specs.Batch.{blankJob, blankDelay, jobOf, ticks, mask, delaysOf}
 use Rattle.model.specs.Plan.{KeepsDelays, KeepsEnds}
@@ -57,9 +58,12 @@ batchFile b =
 
 -- ---- the limits
 
--- no further lines
+-- no further lines, and the test for it
 unfoldable pub noFurther : Further
 noFurther = record { windows = [] }
+
+unfoldable pub hasNone : Further → Bool
+hasNone f = isEmpty (f .windows)
 
 -- edition 01, which has no further lines, or 02
 unfoldable pub Edition : Batch → Type 0
@@ -72,7 +76,7 @@ pub record Within (b : Batch) : Type 0 where
   pub delays : b .m ≤ mostDelays
   pub ticks-each : (i : ℕ) → i < b .n → (1 ≤ ticks b i) × (ticks b i ≤ mostTicks)
   pub masks-each : (i a : ℕ) → i < b .n → a < ticks b i → mask b i a < 65536
-  pub ends-each : (q : Delay) → List·Memᴰ q (delaysOf b) → (q .from < b .n) × (q .to < b .n) × (q .from ≢ q .to)
+  pub jobs-each : (q : Delay) → List·Memᴰ q (delaysOf b) → (q .from < b .n) × (q .to < b .n) × (q .from ≢ q .to)
   pub weight-each : (q : Delay) → List·Memᴰ q (delaysOf b) → (negsuc (mostWeight - 1) ≤ℤ q .weight) × (q .weight ≤ℤ pos mostWeight)
   pub windows : WithinWindows b
 

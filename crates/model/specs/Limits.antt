@@ -1,4 +1,4 @@
--- 01's limits, each named once.
+-- The limits of 01 and 02, each named once.
 use Prim.Native.Nat.{ℕ}
 
 abbrev pub mostJobs : ℕ

@@ -54,7 +54,7 @@ opens file budgets n runs = record { file = fileOf file; budgets = budgets; n = 
 
 -- the starts list of every run: more places than any row has jobs, no two alike, so that what is written shows, and what is left
 unfoldable pub untouched : List ℕ
-untouched = 901 ∷ 902 ∷ 903 ∷ 904 ∷ 905 ∷ []
+untouched = 901 ∷ 902 ∷ 903 ∷ 904 ∷ 905 ∷ 906 ∷ []
 
 -- a plan has its starts in the first places; any other answer, and a refusal, leaves the list
 unfoldable pub planAt : ℕ → ℕ → List ℕ → Run
@@ -115,10 +115,50 @@ rows =
     ∷ opens c3 (3 ∷ 0 ∷ 1000000 ∷ []) 3 (planAt 3 3 (1 ∷ 0 ∷ []) ∷ planAt 3 3 (1 ∷ 0 ∷ []) ∷ planAt 3 3 (1 ∷ 0 ∷ []) ∷ [])
     -- a refused run changes nothing
     ∷ opens c3 (2 ∷ 1000001 ∷ 1 ∷ []) 3 (spentAt 2 ∷ refusedRun 11 ∷ planAt 3 3 (1 ∷ 0 ∷ []) ∷ [])
+    -- edition 02 (02, Q-4): without further lines; delays go on from an earliest start, weights below 0 too; a line is its own job's alone
+    ∷ opens "A0020200 A1010001 A103000100020002" once 3 (planAt 3 3 (1 ∷ 0 ∷ []) ∷ [])
+    ∷ opens "A0020201 A1010001 A1010002 A200010001 A3000005FFFF" once 1 (planAt 7 1 (5 ∷ 6 ∷ []) ∷ [])
+    ∷ opens "A0020201 A1010001 A1010002 A20001FFFE A3000005FFFF" once 1 (planAt 6 1 (5 ∷ 3 ∷ []) ∷ [])
+    ∷ opens "A0020200 A1010001 A1010002 A30100050009" once 1 (planAt 6 1 (0 ∷ 5 ∷ []) ∷ [])
+    -- C3 with job 0 not after 0: the shorter plan is not valid; C4 with job 0 not before 1, and with both not after 0: no plan, and not 10
+    ∷ opens "A0020200 A1010001 A103000100020002 A30000000000" once 3 (planAt 4 3 (0 ∷ 1 ∷ []) ∷ [])
+    ∷ opens "A0020200 A10200010002 A10200010002 A3000001FFFF" once 1 (planAt 3 1 (1 ∷ 0 ∷ []) ∷ [])
+    ∷ opens "A0020200 A10200010002 A10200010002 A30000000000 A30100000000" once 3 (noPlanAt 3 ∷ [])
+    -- 10: delays and ends together, neither alone; one tick more will do
+    ∷ refusedWith 10 (fileOf "A0020201 A1010001 A1010002 A200010001 A30100000000")
+    ∷ refusedWith 10 (fileOf "A0020201 A1010001 A1010002 A200010005 A30000030003 A30100000007")
+    ∷ opens "A0020201 A1010001 A1010002 A200010005 A30000030003 A30100000008" once 1 (planAt 9 1 (3 ∷ 8 ∷ []) ∷ [])
+    -- earliest 20,000, and starts past 23,000 that a sound record may have: the second run is not refused
+    ∷ opens "A0020504 A1010001 A1010002 A1010004 A1010008 A1010010 A2000103E8 A2010203E8 A2020303E8 A2030403E8 A3004E204E20 A304000061A8" (1 ∷ 0 ∷ []) 1
+      (planAt 24001 1 (20000 ∷ 21000 ∷ 22000 ∷ 23000 ∷ 24000 ∷ []) ∷ planAt 24001 1 (20000 ∷ 21000 ∷ 22000 ∷ 23000 ∷ 24000 ∷ []) ∷ [])
+    -- 20: earliest 20,001, above latest, job n, a job twice, jobs falling
+    ∷ refusedWith 20 (fileOf "A0020100 A1010001 A3004E21FFFF")
+    ∷ refusedWith 20 (fileOf "A0020100 A1010001 A30000010000")
+    ∷ refusedWith 20 (fileOf "A0020100 A1010001 A3010000FFFF")
+    ∷ refusedWith 20 (fileOf "A0020200 A1010001 A1010002 A3000000FFFF A3000000FFFF")
+    ∷ refusedWith 20 (fileOf "A0020200 A1010001 A1010002 A3010000FFFF A3000000FFFF")
+    -- 2 before 20, a byte too many, an unknown kind, 1 before 2, a delay too many, a kind too early, 7, an empty line, no 0A
+    ∷ refusedWith 2 (fileOf "A0020100 A1010001 A301000000")
+    ∷ refusedWith 2 (fileOf "A0020100 A1010001 A30000000000FF")
+    ∷ refusedWith 2 (fileOf "A0020100 A1010001 A70001")
+    ∷ refusedWith 1 (fileOf "A0020100 A1010001 A7000")
+    ∷ refusedWith 2 (fileOf "A0020201 A1010001 A1010002 A200010000 A200010000")
+    ∷ refusedWith 2 (fileOf "A0020101 A1010001 A3000000FFFF")
+    ∷ refusedWith 7 (fileOf "A0020101 A1010001")
+    ∷ refusedWith 1 (fileOf "A0020100 A1010001 ")
+    ∷ refusedWith 1 (characters "A0020100 A1010001 A3000000FFFF")
+    -- line by line; 8 in edition 01; 20 before 10
+    ∷ refusedWith 20 (fileOf "A0020100 A1010001 A3010000FFFF A3000")
+    ∷ refusedWith 8 (fileOf "A0010100 A1010001 A3000000FFFF")
+    ∷ refusedWith 20 (fileOf "A0020202 A1010001 A1010002 A200010001 A201000000 A3020000FFFF")
+    -- 02's example of 3, edition 00, and edition 02 passes 3
+    ∷ refusedWith 3 (fileOf "A0030100")
+    ∷ refusedWith 3 (fileOf "A0000100")
+    ∷ refusedWith 4 (fileOf "A0020000")
     -- the refusals' numbers and order: 1 before 2, 2 before 3, 3 before 4, 2 before 4, 5 before 6, 8 before 10
     ∷ refusedWith 1 (fileOf "A00100g")
-    ∷ refusedWith 2 (fileOf "A00201")
-    ∷ refusedWith 3 (fileOf "A0030100")
+    ∷ refusedWith 2 (fileOf "A00301")
+    ∷ refusedWith 3 (fileOf "A0030000")
     ∷ refusedWith 2 (fileOf "A0010100 A1110001")
     ∷ refusedWith 4 (fileOf "A0010100 A100")
     ∷ refusedWith 5 (fileOf "A0010201 A1010001 A1010001 A2000003E9")
@@ -187,6 +227,14 @@ planRows =
     ∷ judging "A0010100 A10200010000" (fileOf "B00101000100000001 B1000000") (accept tt)
     ∷ judging "A0010100 A10200010000" (fileOf "B00101000200000001 B1000000") (refuse 19)
     ∷ judging "A0010100 A1010000" (fileOf "B00101FFFF00000001 B100FFFF") (accept tt)
+    -- ends (02, Q-4): both pass, a tick outside either is 19, a job without a line starts when it will; B0 keeps 01; the file's 20 comes first
+    ∷ judging "A0020200 A1010001 A1010002 A30000020004" (fileOf "B00102000300000000 B1000002 B1010000") (accept tt)
+    ∷ judging "A0020200 A1010001 A1010002 A30000020004" (fileOf "B00102000500000000 B1000004 B1010000") (accept tt)
+    ∷ judging "A0020200 A1010001 A1010002 A30000020004" (fileOf "B00102000200000000 B1000001 B1010000") (refuse 19)
+    ∷ judging "A0020200 A1010001 A1010002 A30000020004" (fileOf "B00102000600000000 B1000005 B1010000") (refuse 19)
+    ∷ judging "A0020200 A1010001 A1010002 A30000020004" (fileOf "B00102FFFF00000000 B1000002 B101FFFE") (accept tt)
+    ∷ judging "A0020200 A1010001 A1010002 A30000020004" (fileOf "B00202000300000000 B1000002 B1010000") (refuse 17)
+    ∷ judging "A0020100 A1010001 A3010000FFFF" [] (refuse 20)
     ∷ []
 
 pub marked-plans : map (λ r. judgeTold (judged (r .file) (r .text))) planRows ≡ map (λ r. r .stated) planRows

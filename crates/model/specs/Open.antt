@@ -1,4 +1,5 @@
--- Opening a batch file: line by line, in a line 7 first and then 1 to 6 in turn; then 8, or the further lines of edition 02; then 9, 10.
+-- Opening a batch file: line by line, in a line 7 first and then 1 to 6 in turn; then 8 in edition 01, or the further lines of edition 02, in each 1, 2 and its
+-- kind's number; then 9, 10.
 use Prim.Native.Nat.{ℕ, zero, suc, _+_, _-_, _*_}
 use mathlib.Core.Bool.{Bool, true, false, _&&_, _||_, not}
 use mathlib.Core.List.{List, [], _∷_, _++_}
@@ -42,6 +43,7 @@ weightOk q = leZ (negsuc (mostWeight - 1)) (q .weight) && leZ (q .weight) (pos m
 unfoldable pub fewClashes : Batch → Bool
 fewClashes b = leb (length (clashes b)) mostClashes
 
+-- some starts keep the delays and the ends: exactly where there are least starts (model/proofs/OpenLaws: met-starts)
 unfoldable pub delaysMet : Batch → Bool
 delaysMet b = isSome (leastStarts (earliestStarts b) (latestStarts b) (delaysOf b))
 

@@ -1,4 +1,4 @@
--- Which records are sound. A record may come from anywhere; only what 01 names is looked at.
+-- Which records are sound. A record may come from anywhere; only what 01 and 02 name is looked at.
 use Prim.Native.Nat.{ℕ}
 use mathlib.Core.Bool.{Bool, true, _&&_, _||_, not}
 use mathlib.Core.List.{List, [], _∷_, map}
@@ -15,18 +15,19 @@ use Rattle.model.specs.Batch.{ticks, delaysOf}
 use Rattle.model.specs.Plan.{start}
 use Rattle.model.specs.Clash.{clashes}
 use Rattle.model.specs.Search.{turnsOf, isTurn}
-use Rattle.model.specs.Window.{windowLines, windowOk}
+use Rattle.model.specs.Window.{windowOk}
+use Rattle.model.specs.Format.{furtherOf, hasNone}
 use Rattle.model.specs.Open.{countsOk, ticksOk, jobsOk, weightOk, fewClashes, delaysMet}
 
 -- its edition is 01, which has no further lines, or 02
 unfoldable pub soundEdition : Batch → Bool
-soundEdition b = eqb (b .edition) 2 || (eqb (b .edition) 1 && isEmpty (windowLines b))
+soundEdition b = eqb (b .edition) 2 || (eqb (b .edition) 1 && hasNone (furtherOf b))
 
 -- its further lines, kind by kind, keep their limits, and what has no line is as it is without one
 unfoldable pub soundFurther : Batch → Bool
 soundFurther b = all (windowOk b) (count 0 (b .n))
 
--- its batch passes 4, 5, 6, 9 and 10
+-- its batch passes 4, 5, 6, 9 and 10, and its edition and further lines are sound
 unfoldable pub soundBatch : Batch → Bool
 soundBatch b =
     countsOk (b .n) (b .m) && all (λ i. ticksOk (ticks b i)) (count 0 (b .n)) && soundEdition b && soundFurther b

@@ -1,8 +1,9 @@
 -- Least starts (the earliest start times, longest-path potentials) of a list of inequalities t_j − t_i ≥ w over n jobs, each with an earliest and
 -- a latest start. An inequality is written as a delay from i to j of weight w.
-use Prim.Native.Nat.{ℕ, zero, suc, _+_, _-_, max, pred}
+use Prim.Native.Nat.{ℕ, zero, suc, _+_, _-_, _≤_, _<_, max, pred}
 use mathlib.Core.Bool.{Bool, true, false, _&&_}
-use mathlib.Core.List.{List, [], _∷_, map}
+use mathlib.Core.Path.{_≡_}
+use mathlib.Core.List.{List, [], _∷_, List·Memᴰ, map}
 use mathlib.Core.Option.{Option, none, some}
 use lib.ListN.{getD, length}
 use lib.IntN.{ℤ, pos, negsuc}
@@ -11,6 +12,7 @@ use lib.Dec.{leb, eqb}
 use Rattle.model.specs.declared.Delay.{Delay}
 use Rattle.model.specs.Common.{count, all, if_then_else_}
 use Rattle.model.specs.Limits.{mostJobs}
+use Rattle.model.specs.Plan.{start, Keeps}
 
 -- t + w, or 0 where that is below 0: it is only compared with a start, and no start is below 0
 unfoldable pub plus : ℕ → ℤ → ℕ
@@ -45,6 +47,20 @@ leastStarts earliest latest qs =
     let n = length earliest in
     let last = rounds qs earliest n in
     if same last (rounds qs earliest (pred n)) && inTime latest last then some last else none
+
+-- ---- what they are the least of
+
+-- starts that keep the inequalities, and both ends of every job
+pub record Solution (earliest latest : List ℕ) (qs : List Delay) (us : List ℕ) : Type 0 where
+  pub keeps : (q : Delay) → List·Memᴰ q qs → Keeps us q
+  pub above : (j : ℕ) → j < length earliest → getD earliest j 0 ≤ start us j
+  pub below : (j : ℕ) → j < length earliest → start us j ≤ getD latest j 0
+
+-- one that has no start above another's; model/proofs/StartsLaws: least-iff and least-exists
+pub record Least (earliest latest : List ℕ) (qs : List Delay) (ts : List ℕ) : Type 0 where
+  pub long : length ts ≡ length earliest
+  pub solution : Solution earliest latest qs ts
+  pub below : (us : List ℕ) → Solution earliest latest qs us → (j : ℕ) → start ts j ≤ start us j
 
 -- ---- the working table
 

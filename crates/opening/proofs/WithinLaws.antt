@@ -9,6 +9,10 @@ use Rattle.model.proofs.ListLaws.{each-all}
 use Rattle.model.proofs.LimitLaws.{within-limits}
 use Rattle.clashes.specs.declared.Clashes.{Clashes}
 use Rattle.clashes.specs.List.{Tabled, listOf}
+use Rattle.model.proofs.WindowLaws.{window-ok, window-soon}
+use Rattle.times.specs.Fill.{Small}
+use Rattle.times.specs.Ends.{earliestRead}
+use Rattle.times.proofs.EndsLaws.{earliest-small}
 use Rattle.weights.specs.Delays.{DelaysSound}
 
 -- a batch within the limits
@@ -16,6 +20,10 @@ module _ (b : Batch) (w : Within b) where
   -- its clashes can be listed
   pub within-tabled : Tabled b
   within-tabled = record { few = w .jobs .1; short = λ i l. w .ticks-each i l .1 }
+
+  -- no earliest start is above 20,000
+  pub within-soon : Small (earliestRead b) 20000
+  within-soon = earliest-small b (w .jobs .1) 20000 (λ i h. window-soon b i (window-ok b (w .windows) i h))
 
   -- its delays can be read
   pub within-sound : DelaysSound b

@@ -1,23 +1,22 @@
 -- From a sound record to the arrays that a run works on, and back to the record that its nodes reach.
-use Prim.Native.Nat.{ℕ, _≤_, _<_}
+use Prim.Native.Nat.{ℕ, _≤_}
 use mathlib.Core.Path.{_≡_, ap, sym, subst, _∙_}
 use mathlib.Core.Bool.{Bool, true, false}
 use mathlib.Core.List.{List}
 use native.Mathlib.Omega.{arith}
-use native.Mathlib.Decide.{decLt}
-use lib.ListN.{length, getD, replicate}
+use lib.ListN.{length, replicate}
 use Rattle.model.specs.declared.Batch.{Batch}
 use Rattle.model.specs.declared.Turn.{Turn}
 use Rattle.model.specs.declared.Search.{Search}
 use Rattle.model.specs.Common.{pad}
-use Rattle.model.specs.Batch.{delaysOf, earliest}
+use Rattle.model.specs.Batch.{delaysOf}
 use Rattle.model.specs.Clash.{clashes}
 use Rattle.model.specs.Search.{Place, empty, placeOf, searchOf, nodesOn, nodes}
 use Rattle.model.specs.Sound.{sound}
 use Rattle.model.proofs.LimitLaws.{counts-iff}
-use Rattle.model.proofs.SoundLaws.{Passes, record-passes, fits}
-use Rattle.times.specs.Fill.{Small, filled}
-use Rattle.times.proofs.FillLaws.{filled-at, filled-past}
+use Rattle.model.proofs.SoundLaws.{record-passes, fits}
+use Rattle.times.specs.Fill.{Small}
+use Rattle.times.proofs.EndsLaws.{earliest-small}
 use Rattle.clashes.specs.First.{Known}
 use Rattle.clashes.specs.Pairs.{Near, Paired}
 use Rattle.clashes.proofs.LimitLaws.{tabled}
@@ -28,7 +27,6 @@ use Rattle.weights.specs.Delays.{delaysRead}
 use Rattle.starts.specs.Table.{heaviestOf}
 use Rattle.starts.proofs.HeldLaws.{held-placed}
 use Rattle.weights.proofs.SoundLaws.{delays-length, holds-read}
-use Rattle.times.specs.Ends.{earliestRead}
 use Rattle.times.specs.Latency.{latencyOf, raisedBy}
 use Rattle.soundness.specs.declared.Examined.{Examined}
 use Rattle.soundness.specs.Examined.{Prepared}
@@ -71,16 +69,12 @@ first-paired s x e p k h =
 
 -- the stays and the earliest starts that their latency is found from
 pub first-times : (s : Search) (x : Examined) → sound s ≡ true → Prepared s x → Small (x .stays) 16 × Small (x .earliest) 44016
-unfolding earliestRead
 first-times s x e p =
-    let q = record-passes s e in (
+    let q = record-passes s e in
+    let f = fits (s .batch) q in (
       rw (p .stays) (passing-stays (s .batch) q),
-      rw (p .earliest) (record { each = λ i. soon q i (decLt i (s .batch .n)) }),
+      rw (p .earliest) (earliest-small (s .batch) (f .jobs) 44016 (λ i h. omega (arith, f .soon i h))),
     )
-  where
-    soon : Passes (s .batch) → (i : ℕ) → Dec (i < s .batch .n) → getD (filled (earliest (s .batch)) 24 (s .batch .n)) i 0 ≤ 44016
-    soon q i (yes h) = omega (arith, filled-at (earliest (s .batch)) 24 (s .batch .n) i (fits (s .batch) q .jobs) h, fits (s .batch) q .soon i h)
-    soon q i (no h) = omega (arith, filled-past (earliest (s .batch)) 24 (s .batch .n) i (omega arith))
 
 pub first-latency : (stays earliest : List ℕ) (first : ℕ) → first ≡ raisedBy stays earliest 0 → first ≡ latencyOf stays earliest 24
 unfolding raisedBy

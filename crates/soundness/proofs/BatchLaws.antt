@@ -1,22 +1,20 @@
 -- A batch that passes the tests of its limits: what they give, and so what the functions that read the batch require.
-use Prim.Native.Nat.{ℕ, _≤_, _<_}
+use Prim.Native.Nat.{_≤_}
 use mathlib.Core.Path.{_≡_}
 use mathlib.Core.Bool.{Bool, true, false, not, _&&_}
 use native.Mathlib.Omega.{arith}
-use native.Mathlib.Decide.{decLt}
-use lib.ListN.{getD}
 use Rattle.model.specs.declared.Batch.{Batch}
 use Rattle.model.specs.Common.{all, count}
-use Rattle.model.specs.Batch.{delaysOf, earliest}
+use Rattle.model.specs.Batch.{delaysOf}
 use Rattle.model.specs.Window.{windowOk}
 use Rattle.model.specs.Sound.{soundEdition, soundFurther}
 use Rattle.model.specs.Open.{countsOk, jobsOk, weightOk}
 use Rattle.model.proofs.BoolLaws.{both, passes}
 use Rattle.model.proofs.ListLaws.{all-each, some-count}
 use Rattle.model.proofs.WindowLaws.{window-soon}
-use Rattle.times.specs.Fill.{Small, filled}
+use Rattle.times.specs.Fill.{Small}
 use Rattle.times.specs.Ends.{earliestRead}
-use Rattle.times.proofs.FillLaws.{filled-at, filled-past}
+use Rattle.times.proofs.EndsLaws.{earliest-small}
 use Rattle.clashes.specs.List.{Tabled}
 use Rattle.clashes.proofs.LimitLaws.{tabled}
 use Rattle.weights.specs.declared.delays.Reading.{Reading}
@@ -45,12 +43,9 @@ module _ (b : Batch) (x : Bool) (p : x ≡ limitsPass b) (e : not x ≡ false) w
 
   -- no earliest start is above 20,000
   pub limits-soon : Small (earliestRead b) 20000
-  unfolding earliestRead soundFurther
-  limits-soon = record { each = λ i. go i (decLt i (b .n)) }
-    where
-      go : (i : ℕ) → Dec (i < b .n) → getD (filled (earliest b) 24 (b .n)) i 0 ≤ 20000
-      go i (yes h) = omega (arith, filled-at (earliest b) 24 (b .n) i counts-jobs h, window-soon b i (all-each (windowOk b) (count 0 (b .n)) (limits .1) (some-count 0 (b .n) i (omega arith) (omega arith))))
-      go i (no h) = omega (arith, filled-past (earliest b) 24 (b .n) i (omega arith))
+  unfolding soundFurther
+  limits-soon =
+      earliest-small b counts-jobs 20000 (λ i h. window-soon b i (all-each (windowOk b) (count 0 (b .n)) (limits .1) (some-count 0 (b .n) i (omega arith) (omega arith))))
 
   -- the delays pass too
   pub passed-delays : (r : Reading) → ReadsDelays b r → not (r .passed) ≡ false → DelaysSound b

@@ -12,6 +12,7 @@ use Rattle.model.specs.Common.{if_then_else_, all, count, keep, isEmpty}
 use Rattle.model.specs.Batch.{windowOf, lined, earliest, latest}
 use Rattle.model.specs.Window.{windowLine, windowLines, endsOk, windowOk}
 use Rattle.model.specs.Open.{countsOk}
+use Rattle.model.specs.Format.{furtherOf, hasNone}
 use Rattle.model.specs.Sound.{soundEdition, soundFurther}
 use Rattle.model.proofs.BoolLaws.{both, and-false, passes, fails}
 use Rattle.model.proofs.AllLaws.{allFrom, all-start}
@@ -66,7 +67,7 @@ module _ (b : Batch) where
   edition-two e = rw (eq-eqb (b .edition) 2 e)
 
   pub edition-one : (b .edition ≡ 2 → ⊥) → b .edition ≡ 1 → (x : Bool) → x ≡ unlined b → x ≡ soundEdition b
-  unfolding soundEdition unlined
+  unfolding soundEdition unlined hasNone furtherOf
   edition-one n e x h = h ∙ rw (ne-eqb (b .edition) 2 n, eq-eqb (b .edition) 1 e)
 
   pub edition-none : (b .edition ≡ 2 → ⊥) → (b .edition ≡ 1 → ⊥) → eqb (b .edition) 1 ≡ soundEdition b

@@ -52,6 +52,15 @@ pub earliest-is : (b : Batch) → b .n ≤ 24 → earliestRead b ≡ pad 24 0 (e
 unfolding earliestRead earliestStarts
 earliest-is b few = filled-is (earliest b) 24 (b .n) few
 
+-- and as small as they are
+pub earliest-small : (b : Batch) → b .n ≤ 24 → (top : ℕ) → ((i : ℕ) → i < b .n → earliest b i ≤ top) → Small (earliestRead b) top
+unfolding earliestRead
+earliest-small b few top h = record { each = λ i. go i (decLt i (b .n)) }
+  where
+    go : (i : ℕ) → Dec (i < b .n) → getD (filled (earliest b) 24 (b .n)) i 0 ≤ top
+    go i (yes l) = omega (arith, filled-at (earliest b) 24 (b .n) i few l, h i l)
+    go i (no l) = omega (arith, filled-past (earliest b) 24 (b .n) i (omega arith))
+
 -- ---- in time
 
 module _ (latest starts : List ℕ) where

@@ -1,5 +1,5 @@
 -- `open_file` reads the batch, and then asks 9 and 10.
-use Rattle.opening.proofs.WithinLaws.{within-sound}
+use Rattle.opening.proofs.WithinLaws.{within-sound, within-soon}
 use Rattle.opening.proofs.OpenLaws.{open-refused, open-within, open-many, open-unmet, open-fresh}
 use borrow.Author.Needs.{needs}
 use Rattle.opening.proofs.open.open_file.Statement.{statement}
@@ -30,7 +30,8 @@ returns-2 : tie.Need-returns-2
 returns-2 c = open-many _ _ (c .before .before .before .before .before .before .read-batch .ensures) (c .before .before .before .before .enum-told .given .1) _ (c .before .before .few-clashes .ensures) (c .before .if1 .taken) _ (c .refused2 .ensures)
 
 delays-met-requires : tie.Need-delays-met-requires
-delays-met-requires c κs = within-sound _ (open-within _ _ (c .before .before .before .before .before .read-batch .ensures) (c .before .before .before .enum-told .given .1))
+delays-met-requires c κs =
+    let w = open-within _ _ (c .before .before .before .before .before .read-batch .ensures) (c .before .before .before .enum-told .given .1) in (within-sound _ w, within-soon _ w)
 
 refused-requires-3 : tie.Need-refused-requires-3
 refused-requires-3 c κs = search needs
