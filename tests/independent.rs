@@ -47,7 +47,7 @@ fn blank() -> Record {
     Record {
         n: 0,
         m: 0,
-        edition: 0,
+        edition: 1,
         ticks: [0; 24],
         masks: [[0; 16]; 24],
         delays: [(0, 0, 0); 128],
