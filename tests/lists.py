@@ -213,9 +213,9 @@ def deep_windows(rng):
     for name in ("css21", "twelve", "full", "clashes-400", "clashes-1024", "scope-limit"):
         with open("../bench/batches/%s.batch" % name, "rb") as file:
             jobs, delays, _ = read_file(file.read())
-        for _ in range(4):
+        for far in (3, 6, 6, 40):
             chosen = rng.sample(range(len(jobs)), 5)
-            windows = {job: (rng.randint(0, 40), 65535) for job in chosen[:3]}
+            windows = {job: (rng.randint(1, far), 65535) for job in chosen[:3]}
             windows.update({job: (0, rng.randint(30, 300)) for job in chosen[3:]})
             budgets = [rng.choice([1, 2, 9, 33, 100, 1000, rng.randint(1, 3000)]) for _ in range(12)]
             calls = [call for b in budgets for call in ("R %d 24" % b, "D")]
