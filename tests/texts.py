@@ -184,7 +184,7 @@ def passing():
     yield "edition 02 without further lines: the plan text has 01 all the same", NO_LINES, C2_PLAN
     yield "a start at its earliest", C3_WINDOWS, C3_PLAN
     yield "a start at its latest", C3_WINDOWS, lined("B0010203E900000000 B10003E8 B1010000")
-    yield "both starts at their latest, and one start at FFFF", TO_THE_LAST, lined("B00101FFFF00000000 B100FFFF")
+    yield "a latest of FFFF", TO_THE_LAST, lined("B00101FFFF00000000 B100FFFF")
     yield "an earliest of 20,000", TO_THE_LAST, lined("B001014E2000000001 B1004E20")
     yield "a start that can be in one tick alone", AT_ONCE, lined("B00102000B00000000 B100000A B101000A")
     yield "a job without a latest, at FFFE", AT_ONCE, lined("B00102FFFF00000000 B100000A B101FFFE")
