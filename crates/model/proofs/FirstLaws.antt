@@ -7,6 +7,8 @@ use mathlib.Core.Bool.{Bool, true, false, not, _&&_, _||_}
 use mathlib.Core.Option.{Option, none, some}
 use mathlib.Core.List.{List, [], _∷_, _++_, map, append-nil, List·Memᴰ, List·Memᴰ·head, List·Memᴰ·tail, List·Memᴰ·not-nil}
 use native.Mathlib.Omega.{arith}
+use native.Mathlib.Nat.{le-refl}
+use native.Mathlib.Decide.{ℕ-discrete}
 use lib.ListN.{length, getD, replicate, length-replicate}
 use lib.Dec.{leb, eqb}
 use lib.Seq.{ext-getD}
@@ -31,7 +33,7 @@ use Rattle.model.proofs.BoolLaws.{apart, both, decide, and-true}
 use Rattle.model.proofs.ListLaws.{all-each, each-all, each-nil, each-cons, count-some, some-count, some-map, some-keep}
 use Rattle.model.proofs.SeqLaws.{getD-in, blanks-at}
 use Rattle.model.proofs.FinishLaws.{latency-mono, finish-latency}
-use Rattle.model.proofs.StartsLaws.{Inside, after, rounds-length, least-round, least-below, least-found, same-refl, ends-length, earliest-at, latest-at}
+use Rattle.model.proofs.StartsLaws.{Inside, after, rounds-length, least-round, least-below, least-found, same-refl, ends-length, earliest-at, latest-at, inside-ends}
 use Rattle.model.proofs.ClashLaws.{Unmet, apart-unmet}
 use Rattle.model.proofs.BackLaws.{numbers}
 use Rattle.model.proofs.NodeLaws.{Fits, Named, each, all-inside, unmet-side, met-first, met-new, valid-found}
@@ -93,6 +95,11 @@ sound-ends01 b p one i h = let r = by (lined b i) without (all-each (windowOk b)
 
 -- ---- least starts, and plans
 
+-- least starts that are in time for other latest starts are the least ones there too
+other-latest : (first last last′ : List ℕ) (qs : List Delay) (ss : List ℕ) → leastStarts first last qs ≡ some ss → inTime last′ ss ≡ true → leastStarts first last′ qs ≡ some ss
+unfolding leastStarts if_then_else_
+other-latest first last last′ qs ss e h = let r = least-round first last qs ss e in rw (r .0, r .1, same-refl ss, h)
+
 -- of a batch within the limits whose jobs have no ends
 module _ (b : Batch) (fits : Fits b) (no-ends : (i : ℕ) → i < b .n → NoEnds b i) where
   -- rounds begin at 0
@@ -138,3 +145,137 @@ module _ (b : Batch) (fits : Fits b) (no-ends : (i : ℕ) → i < b .n → NoEnd
           ap (λ (l : List ℕ). getD l j 0) (ap₂ (λ (first : List ℕ) (n : ℕ). rounds qs first (pred n)) (sym begin-0) (sym (ends-length b)) ∙ z),
           fits .jobs,
         )
+
+  -- a plan of 01, which may start as late as it likes
+  module _ (us : List ℕ) (v : Valid01 b us) where
+    -- it keeps a side of every clash
+    side : (k : ℕ) → k < length (clashes b) → (s : ℕ) × Keeps us (turned (clashes b) (record { clash = k; side = s }))
+    unfolding turned Unmet
+    side k h =
+        let c = getD (clashes b) k noClash in
+        ⊎-elim (λ g. (0, g)) (λ g. (1, g)) (unmet-side us c (apart-unmet b us (v .stations) c (getD-in (clashes b) k noClash h)))
+
+    -- turns that it keeps, on each of the first k clashes
+    record Sides (k : ℕ) : Type 0 where
+      turns : List Turn
+      named : Named b turns
+      kept : (t : Turn) → List·Memᴰ t turns → Keeps us (turned (clashes b) t)
+      every : (j : ℕ) → j < k → List·Memᴰ j (numbers turns)
+
+    sides : (k : ℕ) → k ≤ length (clashes b) → Sides k
+    unfolding Named numbers
+    sides zero h =
+        record {
+          turns = [];
+          named = each-nil (λ (t : Turn). t .clash < length (clashes b));
+          kept = each-nil (λ (t : Turn). Keeps us (turned (clashes b) t));
+          every = λ j g. absurd (omega arith);
+        }
+    sides (suc k) h =
+        let r = sides k (omega arith) in
+        let s = side k (omega arith) in
+        let t : Turn = record { clash = k; side = s .0 } in
+        record {
+          turns = t ∷ r .turns;
+          named = each-cons (λ (t : Turn). t .clash < length (clashes b)) (omega arith) (r .named);
+          kept = each-cons (λ (t : Turn). Keeps us (turned (clashes b) t)) (s .1) (r .kept);
+          every = λ j g. by j g (ℕ-discrete j k) (r .every);
+        }
+      where
+        by : {xs : List ℕ} (j : ℕ) → j < suc k → Dec (j ≡ k) → ((j : ℕ) → j < k → List·Memᴰ j xs) → List·Memᴰ j (k ∷ xs)
+        by j g (yes e) rec = List·Memᴰ·head e
+        by j g (no e) rec = List·Memᴰ·tail (rec j (omega arith))
+
+    abbrev whole : Sides (length (clashes b))
+    whole = sides (length (clashes b)) (omega arith)
+
+    abbrev ts : List Turn
+    ts = whole .turns
+
+    abbrev rs : List Delay
+    rs = inequalities (clashes b) b ts
+
+    -- it keeps them all, and is in time for itself
+    keeps-all : Solution (earliestStarts b) us rs us
+    unfolding KeepsDelays start
+    keeps-all =
+        record {
+          keeps = each b fits (Keeps us) ts (v .delays) (whole .kept);
+          above = λ j h. let g : j < b .n = omega (arith, ends-length b) in omega (arith, earliest-at b j g, no-ends j g .1);
+          below = λ j h. le-refl (getD us j 0);
+        }
+
+    abbrev ss : List ℕ
+    ss = rounds rs (earliestStarts b) (length (earliestStarts b))
+
+    for-us : leastStarts (earliestStarts b) us rs ≡ some ss
+    for-us = least-found (earliestStarts b) us rs (inside-ends b rs (all-inside b fits ts (whole .named))) us keeps-all
+
+    at-node : startsAt (clashes b) b ts ≡ some ss
+    unfolding startsAt
+    at-node =
+        other-latest (earliestStarts b) us (latestStarts b) rs ss for-us
+        (ap₂ (λ (first : List ℕ) (n : ℕ). inTime (latestStarts b) (rounds rs first n)) begin-0 (ends-length b) ∙ in-time ts (whole .named))
+
+    unmet : (o : Option ℕ) → firstMet (clashes b) ss 0 ≡ o → o ≡ none
+    unmet none e = refl
+    unmet (some k) e = absurd (met-new b fits ts (whole .named) ss at-node k e (whole .every k (omega (arith, met-first (clashes b) ss 0 k e .1))))
+
+    -- so there is a valid plan that starts no job later and keeps 02's limit on latency
+    pub tight : (ts : List ℕ) × Valid b ts × ((j : ℕ) → start ts j ≤ start us j) × (latency b ts ≤ mostLatency)
+    tight = (
+      ss,
+      valid-found b fits ts (whole .named) ss at-node (unmet (firstMet (clashes b) ss 0) refl),
+      least-below (earliestStarts b) us rs ss for-us us keeps-all,
+      latency-bound b fits ts (whole .named) ss at-node,
+    )
+
+  -- ---- valid is 01's valid with starts of two bytes
+
+  pub plain-valid : (ts : List ℕ) → Valid b ts ↔ (Valid01 b ts × ((i : ℕ) → i < b .n → start ts i ≤ noLatest))
+  unfolding KeepsEnds
+  plain-valid ts = (
+    λ v. (record { starts = v .starts; delays = v .delays; stations = v .stations }, λ i h. omega (arith, v .ends i h .1, no-ends i h .2)),
+    λ (v, low).
+        record { starts = v .starts; delays = v .delays; stations = v .stations; ends = λ i h. (omega (arith, no-ends i h .1), omega (arith, low i h, no-ends i h .2)) },
+  )
+
+  -- shortest is 01's shortest
+  pub plain-shortest : (ts : List ℕ) → Shortest b ts ↔ Shortest01 b ts
+  plain-shortest ts = (
+    λ s.
+        record {
+          valid = plain-valid ts .0 (s .valid) .0;
+          least = λ us v. let (ss, w, below, low) = tight us v in omega (arith, s .least ss w, latency-mono b ss us below);
+        },
+    λ s.
+        let (ss, w, below, low) = tight ts (s .valid) in
+        let short = s .least ss (plain-valid ss .0 w .0) in
+        record {
+          valid = plain-valid ts .1 (s .valid, λ i h. omega (arith, finish-latency b ts i h));
+          least = λ us v. s .least us (plain-valid us .0 v .0);
+        },
+  )
+
+  -- and there is a valid plan exactly when 01 has one
+  pub plain-none : ((ts : List ℕ) → ¬ Valid b ts) ↔ ((ts : List ℕ) → ¬ Valid01 b ts)
+  plain-none = (λ h us v. let (ss, w, below, low) = tight us v in h ss w, λ h ts v. h ts (plain-valid ts .0 v .0))
+
+-- ---- of every sound record of edition 01: each step of the search, and what it is a search for
+
+module _ (b : Batch) (passes : Passes b) (one : b .edition ≡ 1) where
+  pub starts01 : (ts : List Turn) → Named b ts → startsAt (clashes b) b ts ≡ least01 (b .n) (inequalities (clashes b) b ts)
+  starts01 = plain-starts b (passes-fit b passes) (sound-ends01 b passes one)
+
+  -- the latest start never matters: no least start passes 23,000
+  pub bound01 : (ts : List Turn) → Named b ts → (ss : List ℕ) → startsAt (clashes b) b ts ≡ some ss → (j : ℕ) → start ss j ≤ 23000
+  bound01 ts named ss e = plain-bound b (passes-fit b passes) (sound-ends01 b passes one) ts named ss (sym (starts01 ts named) ∙ e)
+
+  pub valid01 : (ts : List ℕ) → Valid b ts ↔ (Valid01 b ts × ((i : ℕ) → i < b .n → start ts i ≤ noLatest))
+  valid01 = plain-valid b (passes-fit b passes) (sound-ends01 b passes one)
+
+  pub shortest01 : (ts : List ℕ) → Shortest b ts ↔ Shortest01 b ts
+  shortest01 = plain-shortest b (passes-fit b passes) (sound-ends01 b passes one)
+
+  pub none01 : ((ts : List ℕ) → ¬ Valid b ts) ↔ ((ts : List ℕ) → ¬ Valid01 b ts)
+  none01 = plain-none b (passes-fit b passes) (sound-ends01 b passes one)
