@@ -10,28 +10,37 @@ use native.Mathlib.Omega.{arith}
 use native.Mathlib.Nat.{le-refl}
 use native.Mathlib.Decide.{ℕ-discrete}
 use lib.ListN.{length, getD, replicate, length-replicate}
+use lib.IntN.{pos}
 use lib.Dec.{leb, eqb}
 use lib.Seq.{ext-getD}
 use borrow.Author.Tests.{leb-true, le-leb, eqb-true, eqb-false, eq-eqb}
 use Rattle.model.specs.declared.Batch.{Batch}
 use Rattle.model.specs.declared.Delay.{Delay}
+use Rattle.model.specs.declared.Job.{Job}
 use Rattle.model.specs.declared.Turn.{Turn}
 use Rattle.model.specs.declared.Window.{Window}
 use Rattle.model.specs.Common.{if_then_else_, all, count, keep, isEmpty, isSome, Outcome, refuse, accept, _>>=_, require}
-use Rattle.model.specs.Limits.{mostJobs, mostClashes, mostLatency, noLatest}
+use Rattle.model.specs.Limits.{mostJobs, mostWeight, mostClashes, mostLatency, noLatest}
 use Rattle.model.specs.Batch.{blankWindow, delaysOf, windowOf, lined, earliest, latest, earliestStarts, latestStarts}
 use Rattle.model.specs.Plan.{start, Keeps, KeepsDelays, KeepsStations, KeepsEnds, Valid, Shortest, latency}
 use Rattle.model.specs.Clash.{clashes}
 use Rattle.model.specs.Starts.{rounds, same, inTime, leastStarts, Solution}
 use Rattle.model.specs.Search.{noClash, turned, inequalities, startsAt, firstMet}
 use Rattle.model.specs.Window.{WindowLine, windowLine, windowLines, windowIn, windowsOf, endsOk, windowOk}
-use Rattle.model.specs.Format.{furtherOf, noFurther, hasNone, Edition, Within, batchOf, blanked, BatchFile}
-use Rattle.model.specs.Open.{readFile, openFile}
-use Rattle.model.specs.First.{Valid01, Shortest01, first01, least01}
+use Rattle.model.specs.Format.{headerLine, furtherOf, noFurther, hasNone, Edition, Within, batchOf, blanked, BatchFile}
+use Rattle.model.specs.Line.{at, frameIs, line}
+use Rattle.model.specs.Open.{editionOk, countsOk, fewClashes, delaysMet, header, job, delay, due, readOne, readAll, readRest, readFile, openFile}
+use Rattle.model.specs.First.{Valid01, Shortest01, first01, least01, met01, header01, readFile01, openFile01, Begins02}
 use Rattle.model.specs.Sound.{soundEdition, soundFurther}
 use Rattle.model.proofs.BoolLaws.{apart, both, decide, and-true}
 use Rattle.model.proofs.ListLaws.{all-each, each-all, each-nil, each-cons, count-some, some-count, some-map, some-keep}
 use Rattle.model.proofs.SeqLaws.{getD-in, blanks-at}
+use Rattle.model.proofs.OutcomeLaws.{accept-eq, bind-accepts, require-accepts}
+use Rattle.model.proofs.LineLaws.{IsByte, Bytes, read-back}
+use Rattle.model.proofs.LimitLaws.{leZ-iff}
+use Rattle.model.proofs.ReadLaws.{due-line, line-due}
+use Rattle.model.proofs.FrameLaws.{frame-iff, at-each, at-byte}
+use Rattle.model.proofs.WindowLaws.{window-ok, window-soon}
 use Rattle.model.proofs.FinishLaws.{latency-mono, finish-latency}
 use Rattle.model.proofs.StartsLaws.{Inside, after, rounds-length, least-round, least-below, least-found, same-refl, ends-length, earliest-at, latest-at, inside-ends}
 use Rattle.model.proofs.ClashLaws.{Unmet, apart-unmet}
@@ -279,3 +288,105 @@ module _ (b : Batch) (passes : Passes b) (one : b .edition ≡ 1) where
 
   pub none01 : ((ts : List ℕ) → ¬ Valid b ts) ↔ ((ts : List ℕ) → ¬ Valid01 b ts)
   none01 = plain-none b (passes-fit b passes) (sound-ends01 b passes one)
+
+-- ---- opening
+
+-- steps that go on alike
+bind-same : {A B : Type 0} (m : Outcome A) (f g : A → Outcome B) → ((a : A) → m ≡ accept a → f a ≡ g a) → (m >>= f) ≡ (m >>= g)
+unfolding _>>=_
+bind-same (refuse k) f g h = refl
+bind-same (accept a) f g h = h a refl
+
+-- after the delays of edition 01
+rest-first : (jobs : List Job) (delays : List Delay) (end : List ℕ) (n : ℕ) → (readRest 1 n end >>= λ further. accept (batchOf 1 jobs delays further)) ≡ (require 8 (isEmpty end) >>= λ u. accept (batchOf 1 jobs delays noFurther))
+unfolding readRest if_then_else_ require isEmpty _>>=_
+rest-first jobs delays [] n = refl
+rest-first jobs delays (c ∷ cs) n = refl
+
+-- a file that does not begin with a header of edition 02
+module _ (file : List ℕ) (other : ¬ Begins02 file) where
+  abbrev with-1 : ℕ × ℕ → Outcome (ℕ × ℕ × ℕ)
+  with-1 c = accept (1, c .0, c .1)
+
+  module _ (f rest : List ℕ) (here : due file ≡ accept (f, rest)) where
+    not-02 : frameIs 0xA0 4 f ≡ true → at f 1 ≡ 2 → ⊥
+    unfolding Begins02 headerLine count
+    not-02 h e =
+        let l = read-back file f rest (due-line file (f, rest) here) in
+        let k = frame-iff 0xA0 4 f .0 h in
+        let z : 0xA0 ∷ 2 ∷ at f 2 ∷ at f 3 ∷ [] ≡ f = ap₂ (λ (x y : ℕ). x ∷ y ∷ at f 2 ∷ at f 3 ∷ []) (sym (k .0)) (sym e) ∙ at-each f 4 (k .1) in
+        other (at f 2, at f 3, rest, at-byte f 2 (l .1), at-byte f 3 (l .1), sym (ap (λ (x : List ℕ). line x ++ rest) z ∙ l .0))
+
+    -- its first line is read, or refused, as 01 reads it
+    header-first : header f ≡ (header01 f >>= with-1)
+    unfolding header header01 _>>=_ require editionOk
+    header-first = frame (frameIs 0xA0 4 f) refl (eqb (at f 1) 1) refl (countsOk (at f 2) (at f 3)) refl
+      where
+        frame : (t : Bool) → frameIs 0xA0 4 f ≡ t → (u : Bool) → eqb (at f 1) 1 ≡ u → (v : Bool) → countsOk (at f 2) (at f 3) ≡ v → header f ≡ (header01 f >>= with-1)
+        frame false e u g v h = rw e
+        frame true e true g true h = rw (e, g, h) (ap (λ (x : ℕ). accept (x, at f 2, at f 3)) (eqb-true (at f 1) 1 g))
+        frame true e true g false h = rw (e, g, h)
+        frame true e false g v h = rw (e, g, decide (eqb (at f 1) 2) (λ z. not-02 e (eqb-true (at f 1) 2 z)))
+
+    body-first : (o : Outcome (ℕ × ℕ)) → header01 f ≡ o → readFile file ≡ readFile01 file
+    unfolding readFile readFile01 readOne _>>=_
+    body-first (refuse k) e = rw (here, header-first, e)
+    body-first (accept (n, m)) e =
+        rw (here, header-first, e)
+        (bind-same (readAll job n rest) _ _ (λ (jobs, afterJobs) _. bind-same (readAll (delay n) m afterJobs) _ _ (λ (delays, end) _. rest-first jobs delays end n)))
+
+  pub read-first : readFile file ≡ readFile01 file
+  unfolding readFile readFile01 readOne _>>=_
+  read-first = by (due file) refl
+    where
+      by : (o : Outcome (List ℕ × List ℕ)) → due file ≡ o → readFile file ≡ readFile01 file
+      by (refuse k) e = rw e
+      by (accept (f, rest)) e = body-first f rest e (header01 f) refl
+
+-- what 01 reads is of edition 01
+first-edition : (file : List ℕ) (b : Batch) → readFile01 file ≡ accept b → b .edition ≡ 1
+unfolding readFile01 batchOf
+first-edition file b e =
+    let r = bind-accepts (readOne header01 file) _ b e in
+    let s = bind-accepts (readAll job (r .0 .0 .0) (r .0 .1)) _ b (r .2) in
+    let t = bind-accepts (readAll (delay (r .0 .0 .0)) (r .0 .0 .1) (s .0 .1)) _ b (s .2) in
+    ap (λ (c : Batch). c .edition) (sym (accept-eq (require-accepts 8 _ _ b (t .2) .1)))
+
+within-fits : (b : Batch) → Within b → fewClashes b ≡ true → Fits b
+unfolding fewClashes
+within-fits b w few =
+    record {
+      jobs = w .jobs .1;
+      short = λ i h. w .ticks-each i h .1;
+      inside = λ q m. let e = w .jobs-each q m in (e .0, e .1);
+      slow = λ q m. leZ-iff (q .weight) (pos mostWeight) .1 (w .weight-each q m .1);
+      soon = λ i h. window-soon b i (window-ok b (w .windows) i h);
+      few = leb-true (length (clashes b)) mostClashes few;
+    }
+
+-- 10 is 01's: the delays can be met
+met-first01 : (file : List ℕ) (b : Batch) → readFile file ≡ accept b → b .edition ≡ 1 → fewClashes b ≡ true → delaysMet b ≡ met01 b
+unfolding delaysMet met01 startsAt inequalities Named
+met-first01 file b e one few =
+    let within = read-format file b .0 e .0 in
+    let no-ends : (i : ℕ) → i < b .n → NoEnds b i = λ i h. blank-ends b (read-ends01 file b e one) i in
+    rw append-nil at (ap isSome (plain-starts b (within-fits b within few) no-ends [] (each-nil (λ (t : Turn). t .clash < length (clashes b)))))
+
+-- the rest opens, or is refused, as 01 says
+pub open-first : (file : List ℕ) → ¬ Begins02 file → openFile file ≡ openFile01 file
+unfolding openFile openFile01 require _>>=_
+open-first file other =
+    ap (λ (o : Outcome Batch). o >>= λ b. require 9 (fewClashes b) >>= λ u. require 10 (delaysMet b) >>= λ v. accept b) (read-first file other)
+    ∙ bind-same (readFile01 file) _ _ (λ b e. by b (read-first file other ∙ e) (first-edition file b e) (fewClashes b) refl)
+  where
+    by : (b : Batch) → readFile file ≡ accept b → b .edition ≡ 1 → (t : Bool) → fewClashes b ≡ t
+        → (require 9 (fewClashes b) >>= λ u. require 10 (delaysMet b) >>= λ v. accept b) ≡ (require 9 (fewClashes b) >>= λ u. require 10 (met01 b) >>= λ v. accept b)
+    by b e one true h = rw (met-first01 file b e one h)
+    by b e one false h = rw h
+
+-- a file that begins with one is refused by 01 with 3
+pub open-second : (file : List ℕ) → Begins02 file → openFile01 file ≡ refuse 3
+unfolding Begins02 headerLine openFile01 readFile01 readOne header01 frameIs at require _>>=_
+open-second file (n, m, rest, small, small′, e) =
+    let bytes : Bytes (0xA0 ∷ 2 ∷ n ∷ m ∷ []) = each-cons IsByte (omega arith) (each-cons IsByte (omega arith) (each-cons IsByte small (each-cons IsByte small′ (each-nil IsByte)))) in
+    rw (e, line-due 0xA0 (2 ∷ n ∷ m ∷ []) rest bytes)
