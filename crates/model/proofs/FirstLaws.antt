@@ -30,7 +30,7 @@ use Rattle.model.specs.Window.{WindowLine, windowLine, windowLines, wind
 use Rattle.model.specs.Format.{headerLine, furtherOf, noFurther, hasNone, Edition, Within, batchOf, blanked, BatchFile}
 use Rattle.model.specs.Line.{at, frameIs, line}
 use Rattle.model.specs.Open.{editionOk, countsOk, fewClashes, delaysMet, header, job, delay, due, readOne, readAll, readRest, readFile, openFile}
-use Rattle.model.specs.First.{Valid01, Shortest01, first01, least01, met01, header01, readFile01, openFile01, Begins02}
+use Rattle.model.specs.First.{Valid01, Shortest01, first01, least01, met01, header01, readFile01, openFile01, Begins}
 use Rattle.model.specs.Sound.{soundEdition, soundFurther}
 use Rattle.model.proofs.BoolLaws.{apart, both, decide, and-true}
 use Rattle.model.proofs.ListLaws.{all-each, each-all, each-nil, each-cons, count-some, some-count, some-map, some-keep}
@@ -304,13 +304,13 @@ rest-first jobs delays [] n = refl
 rest-first jobs delays (c ∷ cs) n = refl
 
 -- a file that does not begin with a header of edition 02
-module _ (file : List ℕ) (other : ¬ Begins02 file) where
+module _ (file : List ℕ) (other : ¬ Begins 2 file) where
   abbrev with-1 : ℕ × ℕ → Outcome (ℕ × ℕ × ℕ)
   with-1 c = accept (1, c .0, c .1)
 
   module _ (f rest : List ℕ) (here : due file ≡ accept (f, rest)) where
     not-02 : frameIs 0xA0 4 f ≡ true → at f 1 ≡ 2 → ⊥
-    unfolding Begins02 headerLine count
+    unfolding Begins headerLine count
     not-02 h e =
         let l = read-back file f rest (due-line file (f, rest) here) in
         let k = frame-iff 0xA0 4 f .0 h in
@@ -373,7 +373,7 @@ met-first01 file b e one few =
     rw append-nil at (ap isSome (plain-starts b (within-fits b within few) no-ends [] (each-nil (λ (t : Turn). t .clash < length (clashes b)))))
 
 -- the rest opens, or is refused, as 01 says
-pub open-first : (file : List ℕ) → ¬ Begins02 file → openFile file ≡ openFile01 file
+pub open-first : (file : List ℕ) → ¬ Begins 2 file → openFile file ≡ openFile01 file
 unfolding openFile openFile01 require _>>=_
 open-first file other =
     ap (λ (o : Outcome Batch). o >>= λ b. require 9 (fewClashes b) >>= λ u. require 10 (delaysMet b) >>= λ v. accept b) (read-first file other)
@@ -385,8 +385,8 @@ open-first file other =
     by b e one false h = rw h
 
 -- a file that begins with one is refused by 01 with 3
-pub open-second : (file : List ℕ) → Begins02 file → openFile01 file ≡ refuse 3
-unfolding Begins02 headerLine openFile01 readFile01 readOne header01 frameIs at require _>>=_
+pub open-second : (file : List ℕ) → Begins 2 file → openFile01 file ≡ refuse 3
+unfolding Begins headerLine openFile01 readFile01 readOne header01 frameIs at require _>>=_
 open-second file (n, m, rest, small, small′, e) =
     let bytes : Bytes (0xA0 ∷ 2 ∷ n ∷ m ∷ []) = each-cons IsByte (omega arith) (each-cons IsByte (omega arith) (each-cons IsByte small (each-cons IsByte small′ (each-nil IsByte)))) in
     rw (e, line-due 0xA0 (2 ∷ n ∷ m ∷ []) rest bytes)

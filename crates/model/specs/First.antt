@@ -67,7 +67,7 @@ openFile01 file = do
   _ ← require 10 (met01 b)
   accept b
 
--- ---- where 02 differs: a file whose first line is a header of edition 02, whatever its counts. 01 refuses it with 3
+-- ---- the file begins with a header of this edition, whatever its counts. Where it is 02, 01 refuses the file with 3, and there alone the two differ
 
-unfoldable pub Begins02 : List ℕ → Type 0
-Begins02 file = (n : ℕ) × (m : ℕ) × (rest : List ℕ) × (n < 256) × (m < 256) × (file ≡ headerLine 2 n m ++ rest)
+unfoldable pub Begins : ℕ → List ℕ → Type 0
+Begins edition file = (n : ℕ) × (m : ℕ) × (rest : List ℕ) × (n < 256) × (m < 256) × (file ≡ headerLine edition n m ++ rest)
