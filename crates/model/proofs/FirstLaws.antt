@@ -35,11 +35,12 @@ use Rattle.model.specs.Sound.{soundEdition, soundFurther}
 use Rattle.model.proofs.BoolLaws.{apart, both, decide, and-true}
 use Rattle.model.proofs.ListLaws.{all-each, each-all, each-nil, each-cons, count-some, some-count, some-map, some-keep}
 use Rattle.model.proofs.SeqLaws.{getD-in, blanks-at}
-use Rattle.model.proofs.OutcomeLaws.{accept-eq, bind-accepts, require-accepts}
+use Rattle.model.proofs.OutcomeLaws.{refused, accept-eq, bind-accepts, require-accepts}
+use Rattle.model.proofs.RefusalLaws.{Only, InLines, only-first, only-open}
 use Rattle.model.proofs.LineLaws.{IsByte, Bytes, read-back}
-use Rattle.model.proofs.LimitLaws.{leZ-iff}
-use Rattle.model.proofs.ReadLaws.{due-line, line-due}
-use Rattle.model.proofs.FrameLaws.{frame-iff, at-each, at-byte}
+use Rattle.model.proofs.LimitLaws.{edition-iff, counts-iff, leZ-iff}
+use Rattle.model.proofs.ReadLaws.{due-line, line-due, one-back}
+use Rattle.model.proofs.FrameLaws.{header-framing, frame-iff, at-each, at-byte}
 use Rattle.model.proofs.WindowLaws.{window-ok, window-soon}
 use Rattle.model.proofs.FinishLaws.{latency-mono, finish-latency}
 use Rattle.model.proofs.StartsLaws.{Inside, after, rounds-length, least-round, least-below, least-found, same-refl, ends-length, earliest-at, latest-at, inside-ends}
@@ -297,6 +298,19 @@ unfolding _>>=_
 bind-same (refuse k) f g h = refl
 bind-same (accept a) f g h = h a refl
 
+-- a first line of kind A0, four bytes and edition 02 is a header of it
+line-02 : (file f rest : List ℕ) → due file ≡ accept (f, rest) → frameIs 0xA0 4 f ≡ true → at f 1 ≡ 2 → Begins 2 file
+unfolding Begins headerLine count
+line-02 file f rest here h e =
+    let l = read-back file f rest (due-line file (f, rest) here) in
+    let k = frame-iff 0xA0 4 f .0 h in
+    let z : 0xA0 ∷ 2 ∷ at f 2 ∷ at f 3 ∷ [] ≡ f = ap₂ (λ (x y : ℕ). x ∷ y ∷ at f 2 ∷ at f 3 ∷ []) (sym (k .0)) (sym e) ∙ at-each f 4 (k .1) in
+    (at f 2, at f 3, rest, at-byte f 2 (l .1), at-byte f 3 (l .1), sym (ap (λ (x : List ℕ). line x ++ rest) z ∙ l .0))
+
+tested : (n m : ℕ) → (frameIs 0xA0 4 (0xA0 ∷ 2 ∷ n ∷ m ∷ []) && eqb (at (0xA0 ∷ 2 ∷ n ∷ m ∷ []) 1) 2) ≡ true
+unfolding frameIs at
+tested n m = refl
+
 -- after the delays of edition 01
 rest-first : (jobs : List Job) (delays : List Delay) (end : List ℕ) (n : ℕ) → (readRest 1 n end >>= λ further. accept (batchOf 1 jobs delays further)) ≡ (require 8 (isEmpty end) >>= λ u. accept (batchOf 1 jobs delays noFurther))
 unfolding readRest if_then_else_ require isEmpty _>>=_
@@ -309,14 +323,6 @@ module _ (file : List ℕ) (other : ¬ Begins 2 file) where
   with-1 c = accept (1, c .0, c .1)
 
   module _ (f rest : List ℕ) (here : due file ≡ accept (f, rest)) where
-    not-02 : frameIs 0xA0 4 f ≡ true → at f 1 ≡ 2 → ⊥
-    unfolding Begins headerLine count
-    not-02 h e =
-        let l = read-back file f rest (due-line file (f, rest) here) in
-        let k = frame-iff 0xA0 4 f .0 h in
-        let z : 0xA0 ∷ 2 ∷ at f 2 ∷ at f 3 ∷ [] ≡ f = ap₂ (λ (x y : ℕ). x ∷ y ∷ at f 2 ∷ at f 3 ∷ []) (sym (k .0)) (sym e) ∙ at-each f 4 (k .1) in
-        other (at f 2, at f 3, rest, at-byte f 2 (l .1), at-byte f 3 (l .1), sym (ap (λ (x : List ℕ). line x ++ rest) z ∙ l .0))
-
     -- its first line is read, or refused, as 01 reads it
     header-first : header f ≡ (header01 f >>= with-1)
     unfolding header header01 _>>=_ require editionOk
@@ -326,7 +332,7 @@ module _ (file : List ℕ) (other : ¬ Begins 2 file) where
         frame false e u g v h = rw e
         frame true e true g true h = rw (e, g, h) (ap (λ (x : ℕ). accept (x, at f 2, at f 3)) (eqb-true (at f 1) 1 g))
         frame true e true g false h = rw (e, g, h)
-        frame true e false g v h = rw (e, g, decide (eqb (at f 1) 2) (λ z. not-02 e (eqb-true (at f 1) 2 z)))
+        frame true e false g v h = rw (e, g, decide (eqb (at f 1) 2) (λ z. other (line-02 file f rest here e (eqb-true (at f 1) 2 z))))
 
     body-first : (o : Outcome (ℕ × ℕ)) → header01 f ≡ o → readFile file ≡ readFile01 file
     unfolding readFile readFile01 readOne _>>=_
@@ -384,9 +390,106 @@ open-first file other =
     by b e one true h = rw (met-first01 file b e one h)
     by b e one false h = rw h
 
--- a file that begins with one is refused by 01 with 3
-pub open-second : (file : List ℕ) → Begins 2 file → openFile01 file ≡ refuse 3
-unfolding Begins headerLine openFile01 readFile01 readOne header01 frameIs at require _>>=_
-open-second file (n, m, rest, small, small′, e) =
-    let bytes : Bytes (0xA0 ∷ 2 ∷ n ∷ m ∷ []) = each-cons IsByte (omega arith) (each-cons IsByte (omega arith) (each-cons IsByte small (each-cons IsByte small′ (each-nil IsByte)))) in
-    rw (e, line-due 0xA0 (2 ∷ n ∷ m ∷ []) rest bytes)
+-- ---- a file that begins with a header of edition 02
+
+module _ (file : List ℕ) (n m : ℕ) (rest : List ℕ) (small : n < 256) (small′ : m < 256) (e : file ≡ headerLine 2 n m ++ rest) where
+  -- its first line
+  first-line : due file ≡ accept (0xA0 ∷ 2 ∷ n ∷ m ∷ [], rest)
+  unfolding headerLine
+  first-line =
+      ap due e
+      ∙ line-due 0xA0 (2 ∷ n ∷ m ∷ []) rest (each-cons IsByte (omega arith) (each-cons IsByte (omega arith) (each-cons IsByte small (each-cons IsByte small′ (each-nil IsByte)))))
+
+  -- 01 refuses it with 3
+  refused-3 : openFile01 file ≡ refuse 3
+  unfolding openFile01 readFile01 readOne header01 frameIs at require _>>=_
+  refused-3 = rw first-line
+
+  -- 02 does not
+  abbrev Not3 : ℕ → Type 0
+  Not3 k = k ≡ 3 → ⊥
+
+  not-3 : InLines Not3
+  not-3 = record { n1 = λ z. omega arith; n2 = λ z. omega arith; n4 = λ z. omega arith; n5 = λ z. omega arith; n6 = λ z. omega arith; n7 = λ z. omega arith }
+
+  header-02 : Only Not3 (readOne header file)
+  unfolding readOne header frameIs at require editionOk _>>=_
+  header-02 = rw first-line (by (countsOk n m))
+    where
+      by : (t : Bool) → Only {A = (ℕ × ℕ × ℕ) × List ℕ} Not3 ((require 4 t >>= λ u. accept (2, n, m)) >>= λ (x : ℕ × ℕ × ℕ). accept (x, rest))
+      by true = record { number = λ k z. refused (sym z) }
+      by false = record { number = λ k z. let w : _≡_ {A = ℕ} 4 k = cc in λ y. omega arith }
+
+  passed-3 : openFile file ≡ refuse 3 → ⊥
+  passed-3 z =
+      only-open not-3 file (λ y. omega arith) (λ y. omega arith) header-02 (λ edition n m rest h. (λ one y. omega arith, λ two y. omega arith)) .number 3 z refl
+
+pub open-second : (file : List ℕ) → Begins 2 file → (openFile01 file ≡ refuse 3) × (openFile file ≡ refuse 3 → ⊥)
+unfolding Begins
+open-second file (n, m, rest, small, small′, e) = (refused-3 file n m rest small small′ e, passed-3 file n m rest small small′ e)
+
+-- every file is of one sort or the other
+pub begins-02 : (file : List ℕ) → Dec (Begins 2 file)
+unfolding Begins
+begins-02 file = by (due file) refl
+  where
+    line-at : (f rest : List ℕ) → due file ≡ accept (f, rest) → (t : Bool) → (frameIs 0xA0 4 f && eqb (at f 1) 2) ≡ t → Dec (Begins 2 file)
+    line-at f rest e true h = let r = both (frameIs 0xA0 4 f) _ h in yes (line-02 file f rest e (r .0) (eqb-true (at f 1) 2 (r .1)))
+    line-at f rest e false h =
+        no (λ (n, m, rest′, small, small′, z).
+        let same-line : _≡_ {A = List ℕ × List ℕ} (f, rest) (0xA0 ∷ 2 ∷ n ∷ m ∷ [], rest′) = accept-eq (sym e ∙ first-line file n m rest′ small small′ z) in
+        apart (sym h ∙ ap (λ (p : List ℕ × List ℕ). frameIs 0xA0 4 (p .0) && eqb (at (p .0) 1) 2) same-line ∙ tested n m))
+
+    by : (o : Outcome (List ℕ × List ℕ)) → due file ≡ o → Dec (Begins 2 file)
+    by (refuse k) e = no (λ (n, m, rest, small, small′, z). refused (sym e ∙ first-line file n m rest small small′ z))
+    by (accept (f, rest)) e = line-at f rest e (frameIs 0xA0 4 f && eqb (at f 1) 2) refl
+
+-- so opening is 01's exactly for files that do not begin with a header of edition 02. Where it begins with one, 01 says 3, which 02 never does
+pub open01 : (file : List ℕ) → ((¬ Begins 2 file) × (openFile file ≡ openFile01 file)) ⊎ (Begins 2 file × (openFile01 file ≡ refuse 3) × (openFile file ≡ refuse 3 → ⊥))
+open01 file = by (begins-02 file)
+  where
+    by : Dec (Begins 2 file) → ((¬ Begins 2 file) × (openFile file ≡ openFile01 file)) ⊎ (Begins 2 file × (openFile01 file ≡ refuse 3) × (openFile file ≡ refuse 3 → ⊥))
+    by (yes h) = let r = open-second file h in inr (h, r .0, r .1)
+    by (no h) = inl (h, open-first file h)
+
+-- ---- 8 is for edition 01 only, and 20 for 02
+
+-- a header that is read stands at the beginning of the file
+header-begins : (file : List ℕ) (edition n m : ℕ) (rest : List ℕ) → readOne header file ≡ accept ((edition, n, m), rest) → Begins edition file × ((edition ≡ 1) ⊎ (edition ≡ 2))
+unfolding Begins headerLine
+header-begins file edition n m rest e =
+    let r = one-back _ _ _ _ _ header-framing file (edition, n, m) rest e in
+    let c = counts-iff n m .0 (r .1 .1) in
+    ((n, m, rest, omega (arith, c .0 .1), omega (arith, c .1), sym (r .0)), edition-iff edition .0 (r .1 .0))
+
+module _ (file : List ℕ) where
+  abbrev ByEdition : ℕ → Type 0
+  ByEdition k = (k ≡ 8 → Begins 1 file) × (k ≡ 20 → Begins 2 file)
+
+  in-both : InLines ByEdition
+  in-both =
+      record {
+        n1 = (λ z. absurd (omega arith), λ z. absurd (omega arith));
+        n2 = (λ z. absurd (omega arith), λ z. absurd (omega arith));
+        n4 = (λ z. absurd (omega arith), λ z. absurd (omega arith));
+        n5 = (λ z. absurd (omega arith), λ z. absurd (omega arith));
+        n6 = (λ z. absurd (omega arith), λ z. absurd (omega arith));
+        n7 = (λ z. absurd (omega arith), λ z. absurd (omega arith));
+      }
+
+  by-edition : Only ByEdition (openFile file)
+  by-edition =
+      only-open in-both file (λ z. absurd (omega arith), λ z. absurd (omega arith)) (λ z. absurd (omega arith), λ z. absurd (omega arith))
+      (only-first in-both (λ z. absurd (omega arith), λ z. absurd (omega arith)) file) (λ edition n m rest e.
+      let h = header-begins file edition n m rest e in
+      (λ one. (λ z. subst (λ (x : ℕ). Begins x file) one (h .0), λ z. absurd (omega arith)), λ other. (λ z. absurd (omega arith), λ z. two edition other h)))
+    where
+      two : (edition : ℕ) → ¬ (edition ≡ 1) → Begins edition file × ((edition ≡ 1) ⊎ (edition ≡ 2)) → Begins 2 file
+      two edition other (h, inl e) = absurd (other e)
+      two edition other (h, inr e) = subst (λ (x : ℕ). Begins x file) e h
+
+  pub refused-8 : openFile file ≡ refuse 8 → Begins 1 file
+  refused-8 e = by-edition .number 8 e .0 refl
+
+  pub refused-20 : openFile file ≡ refuse 20 → Begins 2 file
+  refused-20 e = by-edition .number 20 e .1 refl
