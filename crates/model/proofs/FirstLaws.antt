@@ -2,7 +2,7 @@
 -- and whether there is a plan are document 01's (specs/First), and a file that does not begin with a header of edition 02 opens, or is refused, as 01 says.
 use Prim.Native.Nat.{ℕ, zero, suc, _+_, _*_, _≤_, _<_, pred}
 use mathlib.Core.Path.{_≡_, refl, ap, ap₂, sym, _∙_, subst}
-use mathlib.Core.Logic.{_⊎_, inl, inr, ⊎-elim, _↔_}
+use mathlib.Core.Logic.{_⊎_, inl, inr, ⊎-elim, _↔_, _≢_}
 use mathlib.Core.Bool.{Bool, true, false, not, _&&_, _||_}
 use mathlib.Core.Option.{Option, none, some}
 use mathlib.Core.List.{List, [], _∷_, _++_, map, append-nil, List·Memᴰ, List·Memᴰ·head, List·Memᴰ·tail, List·Memᴰ·not-nil}
@@ -390,43 +390,61 @@ open-first file other =
     by b e one true h = rw (met-first01 file b e one h)
     by b e one false h = rw h
 
--- ---- a file that begins with a header of edition 02
+-- ---- a file that begins with a header of some edition
 
-module _ (file : List ℕ) (n m : ℕ) (rest : List ℕ) (small : n < 256) (small′ : m < 256) (e : file ≡ headerLine 2 n m ++ rest) where
+module _ (file : List ℕ) (edition n m : ℕ) (rest : List ℕ) (byte : edition < 256) (small : n < 256) (small′ : m < 256) (e : file ≡ headerLine edition n m ++ rest) where
   -- its first line
-  first-line : due file ≡ accept (0xA0 ∷ 2 ∷ n ∷ m ∷ [], rest)
+  first-line : due file ≡ accept (0xA0 ∷ edition ∷ n ∷ m ∷ [], rest)
   unfolding headerLine
   first-line =
       ap due e
-      ∙ line-due 0xA0 (2 ∷ n ∷ m ∷ []) rest (each-cons IsByte (omega arith) (each-cons IsByte (omega arith) (each-cons IsByte small (each-cons IsByte small′ (each-nil IsByte)))))
+      ∙ line-due 0xA0 (edition ∷ n ∷ m ∷ []) rest (each-cons IsByte (omega arith) (each-cons IsByte byte (each-cons IsByte small (each-cons IsByte small′ (each-nil IsByte)))))
 
-  -- 01 refuses it with 3
-  refused-3 : openFile01 file ≡ refuse 3
+  -- 3 where it is neither 01 nor 02
+  refused-3 : editionOk edition ≡ false → openFile file ≡ refuse 3
+  unfolding openFile readFile readOne header frameIs at require _>>=_
+  refused-3 h = rw (first-line, h)
+
+  -- 01 refuses all but its own with 3
+  first-3 : eqb edition 1 ≡ false → openFile01 file ≡ refuse 3
   unfolding openFile01 readFile01 readOne header01 frameIs at require _>>=_
-  refused-3 = rw first-line
+  first-3 h = rw (first-line, h)
 
-  -- 02 does not
+  -- and 3 is for no file that begins with 01 or 02
   abbrev Not3 : ℕ → Type 0
   Not3 k = k ≡ 3 → ⊥
 
   not-3 : InLines Not3
   not-3 = record { n1 = λ z. omega arith; n2 = λ z. omega arith; n4 = λ z. omega arith; n5 = λ z. omega arith; n6 = λ z. omega arith; n7 = λ z. omega arith }
 
-  header-02 : Only Not3 (readOne header file)
-  unfolding readOne header frameIs at require editionOk _>>=_
-  header-02 = rw first-line (by (countsOk n m))
+  header-known : editionOk edition ≡ true → Only Not3 (readOne header file)
+  unfolding readOne header frameIs at require _>>=_
+  header-known h = rw (first-line, h) (by (countsOk n m))
     where
-      by : (t : Bool) → Only {A = (ℕ × ℕ × ℕ) × List ℕ} Not3 ((require 4 t >>= λ u. accept (2, n, m)) >>= λ (x : ℕ × ℕ × ℕ). accept (x, rest))
+      by : (t : Bool) → Only {A = (ℕ × ℕ × ℕ) × List ℕ} Not3 ((require 4 t >>= λ u. accept (edition, n, m)) >>= λ (x : ℕ × ℕ × ℕ). accept (x, rest))
       by true = record { number = λ k z. refused (sym z) }
       by false = record { number = λ k z. let w : _≡_ {A = ℕ} 4 k = cc in λ y. omega arith }
 
-  passed-3 : openFile file ≡ refuse 3 → ⊥
-  passed-3 z =
-      only-open not-3 file (λ y. omega arith) (λ y. omega arith) header-02 (λ edition n m rest h. (λ one y. omega arith, λ two y. omega arith)) .number 3 z refl
+  passed-3 : editionOk edition ≡ true → openFile file ≡ refuse 3 → ⊥
+  passed-3 h z =
+      only-open not-3 file (λ y. omega arith) (λ y. omega arith) (header-known h) (λ edition n m rest h. (λ one y. omega arith, λ two y. omega arith)) .number 3 z refl
 
+-- refusal 3 means neither edition
+pub open-3 : (file : List ℕ) (edition : ℕ) → edition < 256 → Begins edition file → (openFile file ≡ refuse 3) ↔ ((edition ≢ 1) × (edition ≢ 2))
+unfolding Begins
+open-3 file edition byte (n, m, rest, small, small′, e) = (
+  λ z. (λ one. passed (inl one) z, λ two. passed (inr two) z),
+  λ (one, two). refused-3 file edition n m rest byte small small′ e (decide (editionOk edition) (λ h. ⊎-elim one two (edition-iff edition .0 h))),
+)
+  where
+    passed : (edition ≡ 1) ⊎ (edition ≡ 2) → openFile file ≡ refuse 3 → ⊥
+    passed h z = passed-3 file edition n m rest byte small small′ e (edition-iff edition .1 h) z
+
+-- 01 refuses a file that begins with 02 with 3
 pub open-second : (file : List ℕ) → Begins 2 file → (openFile01 file ≡ refuse 3) × (openFile file ≡ refuse 3 → ⊥)
 unfolding Begins
-open-second file (n, m, rest, small, small′, e) = (refused-3 file n m rest small small′ e, passed-3 file n m rest small small′ e)
+open-second file (n, m, rest, small, small′, e) =
+    (first-3 file 2 n m rest (omega arith) small small′ e refl, passed-3 file 2 n m rest (omega arith) small small′ e (edition-iff 2 .1 (inr refl)))
 
 -- every file is of one sort or the other
 pub begins-02 : (file : List ℕ) → Dec (Begins 2 file)
@@ -437,11 +455,11 @@ begins-02 file = by (due file) refl
     line-at f rest e true h = let r = both (frameIs 0xA0 4 f) _ h in yes (line-02 file f rest e (r .0) (eqb-true (at f 1) 2 (r .1)))
     line-at f rest e false h =
         no (λ (n, m, rest′, small, small′, z).
-        let same-line : _≡_ {A = List ℕ × List ℕ} (f, rest) (0xA0 ∷ 2 ∷ n ∷ m ∷ [], rest′) = accept-eq (sym e ∙ first-line file n m rest′ small small′ z) in
+        let same-line : _≡_ {A = List ℕ × List ℕ} (f, rest) (0xA0 ∷ 2 ∷ n ∷ m ∷ [], rest′) = accept-eq (sym e ∙ first-line file 2 n m rest′ (omega arith) small small′ z) in
         apart (sym h ∙ ap (λ (p : List ℕ × List ℕ). frameIs 0xA0 4 (p .0) && eqb (at (p .0) 1) 2) same-line ∙ tested n m))
 
     by : (o : Outcome (List ℕ × List ℕ)) → due file ≡ o → Dec (Begins 2 file)
-    by (refuse k) e = no (λ (n, m, rest, small, small′, z). refused (sym e ∙ first-line file n m rest small small′ z))
+    by (refuse k) e = no (λ (n, m, rest, small, small′, z). refused (sym e ∙ first-line file 2 n m rest (omega arith) small small′ z))
     by (accept (f, rest)) e = line-at f rest e (frameIs 0xA0 4 f && eqb (at f 1) 2) refl
 
 -- so opening is 01's exactly for files that do not begin with a header of edition 02. Where it begins with one, 01 says 3, which 02 never does
