@@ -9,7 +9,7 @@ use mathlib.Core.List.{List, [], _∷_, _++_, map, append-nil, List·Memᴰ, Lis
 use native.Mathlib.Omega.{arith}
 use native.Mathlib.Nat.{le-refl}
 use native.Mathlib.Decide.{ℕ-discrete}
-use lib.ListN.{length, getD, replicate, length-replicate}
+use lib.ListN.{length, getD, replicate, take, length-replicate}
 use lib.IntN.{pos}
 use lib.Dec.{leb, eqb}
 use lib.Seq.{ext-getD}
@@ -25,13 +25,15 @@ use Rattle.model.specs.Batch.{blankWindow, delaysOf, windowOf, lined, ea
 use Rattle.model.specs.Plan.{start, Keeps, KeepsDelays, KeepsStations, KeepsEnds, Valid, Shortest, latency}
 use Rattle.model.specs.Clash.{clashes}
 use Rattle.model.specs.Starts.{rounds, same, inTime, leastStarts, Solution}
-use Rattle.model.specs.Search.{noClash, turned, inequalities, startsAt, firstMet}
+use Rattle.model.specs.Search.{noClash, turned, inequalities, startsAt, firstMet, freshSearch}
 use Rattle.model.specs.Window.{WindowLine, windowLine, windowLines, windowIn, windowsOf, endsOk, windowOk}
 use Rattle.model.specs.Format.{headerLine, furtherOf, noFurther, hasNone, Edition, Within, batchOf, blanked, BatchFile}
 use Rattle.model.specs.Line.{at, frameIs, line}
 use Rattle.model.specs.Open.{editionOk, countsOk, fewClashes, delaysMet, header, job, delay, due, readOne, readAll, readRest, readFile, openFile}
 use Rattle.model.specs.First.{Valid01, Shortest01, first01, least01, met01, header01, readFile01, openFile01, Begins}
 use Rattle.model.specs.Sound.{soundEdition, soundFurther}
+use Rattle.model.specs.Answers.{plan, noPlan, runTold}
+use Rattle.model.specs.Calls.{Call, call, after as after-calls}
 use Rattle.model.proofs.BoolLaws.{apart, both, decide, and-true}
 use Rattle.model.proofs.ListLaws.{all-each, each-all, each-nil, each-cons, count-some, some-count, some-map, some-keep}
 use Rattle.model.proofs.SeqLaws.{getD-in, blanks-at}
@@ -50,6 +52,7 @@ use Rattle.model.proofs.NodeLaws.{Fits, Named, each, all-inside, unmet-
 use Rattle.model.proofs.BoundLaws.{after-bound, all-slow, latency-bound}
 use Rattle.model.proofs.SoundLaws.{Passes, passes-fit}
 use Rattle.model.proofs.FileLaws.{read-format, open-read}
+use Rattle.model.proofs.OpenLaws.{open-format, file-passes, answer-shortest, answer-none}
 
 -- ---- the ends of edition 01
 
@@ -511,3 +514,13 @@ module _ (file : List ℕ) where
 
   pub refused-20 : openFile file ≡ refuse 20 → Begins 2 file
   refused-20 e = by-edition .number 20 e .1 refl
+
+-- ---- what a search of a file of edition 01 answers, after every list of runs: 01's shortest plan, or that 01 has none
+
+module _ (file : List ℕ) (b : Batch) (f : BatchFile file b) (one : b .edition ≡ 1) where
+  pub plan01 : (cs : List Call) (c : Call) (l t : ℕ) → let x = call (after-calls (freshSearch b) cs) c in runTold (x .0 .answer) ≡ accept (plan l t)
+      → Shortest01 b (take (b .n) (x .1)) × (latency b (take (b .n) (x .1)) ≡ l)
+  plan01 cs c l t e = let r = answer-shortest file b f cs c l t e in (shortest01 b (file-passes file b f) one _ .0 (r .0), r .1)
+
+  pub no-plan01 : (cs : List Call) (c : Call) (t : ℕ) → runTold (call (after-calls (freshSearch b) cs) c .0 .answer) ≡ accept (noPlan t) → (ts : List ℕ) → ¬ Valid01 b ts
+  no-plan01 cs c t e = none01 b (file-passes file b f) one .0 (answer-none file b f cs c t e)
