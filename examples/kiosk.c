@@ -22,15 +22,15 @@
 static const char *const words[] = {
     "accepted",
     "a line without 0A, without digits, with an odd count, or with another byte than 0-9 and A-F",
-    "the first byte is not the kind due, or the length is wrong",
-    "the edition is not 01",
+    "the first byte is no kind that is due there, or the length is wrong",
+    "the edition is neither 01 nor 02",
     "n, m or p is outside its limits (1 to 24 jobs, at most 128 delays, 1 to 16 ticks)",
     "a delay names a job of n or above, or one job twice",
     "a weight is outside -1,000 to 1,000",
     "the file ends where a frame is due",
-    "bytes after the last frame",
+    "bytes after the last frame of edition 01",
     "more than 1,024 clashes",
-    "no starts meet the delays",
+    "no starts meet the delays and the windows",
     "a budget above 1,000,000",
     "the record is not sound",
     "the starts list is shorter than n",
@@ -40,6 +40,7 @@ static const char *const words[] = {
     "the plan text is not one B0 line with 01 and then only B1 lines, each of its length",
     "the plan text's n is not the batch's, or its job lines are not jobs 0 to n - 1 in order",
     "the plan is not valid, or its latency is wrong",
+    "a window's job is of n or above or not above the window's before, or its earliest start is above 20,000 or above its latest",
 };
 
 static double now(void) {

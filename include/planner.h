@@ -7,6 +7,9 @@
  * and its text cannot be written. A plan text, wherever it comes from, is judged beside its batch file; that needs
  * no record.
  *
+ * A file of edition 02 may give jobs a window, an earliest and a latest start. A plan with a start outside is not
+ * valid.
+ *
  * A plan's latency is the first tick from which on no job holds a station, or the latest start of a job that holds
  * none, if that is later. Empty ticks at the end of a job do not count. Where no job holds a station it may be 0.
  *
@@ -19,9 +22,8 @@
  * - Every call ends, a run after at most its budget of nodes. It takes less than 64 KB of stack.
  * - Any bytes may stand in a record: one that makes no sense is refused with 12.
  * - A refused call leaves all memory as it was.
- * - A record has no padding but one byte after each job's ticks. It is never looked at, and an opening or a run
- *   that is not refused may leave anything there, stale bytes of the stack too: compare jobs field by field, and
- *   clear that byte where a record leaves the process.
+ * - A record has no padding: every byte of it belongs to a field, and an opening that is not refused writes them
+ *   all. Two records whose fields are the same are the same bytes.
  */
 #ifndef PLANNER_H
 #define PLANNER_H
@@ -37,12 +39,13 @@ extern "C" {
 
 /* It rises whenever the record's layout, a number's meaning or a call changes, and when a call is added. A program
  * compiled with this header links only with an archive of the same version: with gcc and clang every file that
- * includes the header refers to planner_version_3, a name that no archive of another version has. With another
- * compiler, or with --gc-sections and a gcc before 11 or a clang before 13, call planner_version_3() somewhere in
- * the program; it answers PLANNER_VERSION. (Since 3, empty ticks at the end of a job do not count in the latency.)
+ * includes the header refers to planner_version_4, a name that no archive of another version has. With another
+ * compiler, or with --gc-sections and a gcc before 11 or a clang before 13, call planner_version_4() somewhere in
+ * the program; it answers PLANNER_VERSION. (Since 3, empty ticks at the end of a job do not count in the latency.
+ * Since 4, a record has an edition and windows and no padding, and found and ended have one byte each.)
  */
-#define PLANNER_VERSION 3
-uint32_t planner_version_3(void);
+#define PLANNER_VERSION 4
+uint32_t planner_version_4(void);
 
 #if defined(__GNUC__)
 #pragma GCC diagnostic push
@@ -52,7 +55,7 @@ uint32_t planner_version_3(void);
 __attribute__((__retain__)) /* --gc-sections keeps it */
 #endif
 #endif
-__attribute__((__used__)) static uint32_t (*const planner_linked)(void) = planner_version_3;
+__attribute__((__used__)) static uint32_t (*const planner_linked)(void) = planner_version_4;
 #pragma GCC diagnostic pop
 #endif
 
@@ -63,12 +66,13 @@ __attribute__((__used__)) static uint32_t (*const planner_linked)(void) = planne
 #define PLANNER_TICKS 16           /* the most ticks of a job; the least is 1 */
 #define PLANNER_WEIGHT 1000        /* a delay's weight is -1000 to 1000 */
 #define PLANNER_TURNS 1024         /* the places of a path, and the most clashes of a batch */
-#define PLANNER_START 23000        /* the largest start of a sound record's best */
-#define PLANNER_LATENCY 23016      /* the largest latency of a sound record's best */
+#define PLANNER_EARLIEST 20000     /* the largest earliest start of a job; a latest start is two bytes */
+#define PLANNER_START 43000        /* the largest start of a sound record's best */
+#define PLANNER_LATENCY 43016      /* the largest latency of a sound record's best */
 #define PLANNER_BUDGET 1000000     /* the most nodes of one run */
 #define PLANNER_TOTAL 100000000    /* the most nodes of a whole search */
 #define PLANNER_PLAN_TEXT 235      /* the bytes of the longest plan text */
-#define PLANNER_BATCH_TEXT 3073    /* the bytes of the longest batch text, which is the longest batch file */
+#define PLANNER_BATCH_TEXT 3385    /* the bytes of the longest batch text, which is the longest batch file */
 
 /* ---- the record of a search */
 
@@ -81,16 +85,27 @@ typedef struct planner_delay {
 
 /* A job: bit s of masks[a] is set where it holds station s in its tick a, for a below `ticks`. */
 typedef struct planner_job {
-    uint8_t ticks;
+    uint16_t ticks;
     uint16_t masks[PLANNER_TICKS];
 } planner_job;
 
-/* A batch: the first n jobs and the first m delays count. */
+/* A job's window: it starts at `earliest` or later, and at `latest` or earlier. `lined` is 0 where the file has no line
+ * for it, and anything else where it has one; opening writes 0 or 1. Without a line `earliest` is 0 and `latest` 65535.
+ */
+typedef struct planner_window {
+    uint16_t lined;
+    uint16_t earliest;
+    uint16_t latest;
+} planner_window;
+
+/* A batch: the first n jobs with their windows and the first m delays count. In edition 1 no job has a line. */
 typedef struct planner_batch {
     uint8_t n;
     uint8_t m;
+    uint16_t edition;
     planner_job jobs[PLANNER_JOBS];
     planner_delay delays[PLANNER_DELAYS];
+    planner_window windows[PLANNER_JOBS];
 } planner_batch;
 
 /* A turn of the search: the number of a clash in the batch's list, and the side taken, 0 for a larger distance or 1
@@ -113,8 +128,8 @@ typedef struct planner_turn {
 typedef struct planner_record {
     uint32_t total;                     /* nodes visited so far */
     uint16_t latency;                   /* the latency of the best plan so far, 0 where found is 0 */
-    uint16_t found;                     /* 0 where there is no plan yet, else there is one */
-    uint16_t ended;                     /* 0 while the search goes on, else it has ended */
+    uint8_t found;                      /* 0 where there is no plan yet, else there is one */
+    uint8_t ended;                      /* 0 while the search goes on, else it has ended */
     uint16_t starts[PLANNER_JOBS];      /* the starts of the best plan so far: the first batch.n count */
     planner_batch batch;                /* as the file has it; no run changes it */
     planner_turn path[PLANNER_TURNS];   /* where the search stands; empty places after the last turn */
@@ -148,19 +163,19 @@ typedef struct planner_text {
 
 /* ---- the refusals: where several conditions hold, a call gives the first in the order that it asks them */
 
-/* 1 to 10 are answers of planner_open, 11 to 16 values of `refusal`, 1 to 10 and 17 to 19 answers of planner_judge;
- * PLANNER_REFUSED, above, is a value of `kind`.
+/* 1 to 10 and 20 are answers of planner_open, 11 to 16 values of `refusal`, 1 to 10 and 17 to 20 answers of
+ * planner_judge; PLANNER_REFUSED, above, is a value of `kind`.
  */
 #define PLANNER_REFUSAL_LINE 1       /* a line without 0A, without digits, with an odd count, or with another byte than 0-9 and A-F */
-#define PLANNER_REFUSAL_FRAME 2      /* the first byte is not the kind due, or the length is wrong */
-#define PLANNER_REFUSAL_EDITION 3    /* the edition is not 01 */
+#define PLANNER_REFUSAL_FRAME 2      /* the first byte is no kind that is due there, or the length is wrong */
+#define PLANNER_REFUSAL_EDITION 3    /* the edition is neither 01 nor 02 */
 #define PLANNER_REFUSAL_COUNT 4      /* n, m or p is outside its limits (1 to 24 jobs, at most 128 delays, 1 to 16 ticks) */
 #define PLANNER_REFUSAL_JOB 5        /* a delay names a job of n or above, or one job twice */
 #define PLANNER_REFUSAL_WEIGHT 6     /* a weight is outside -1,000 to 1,000 */
 #define PLANNER_REFUSAL_MISSING 7    /* the file ends where a frame is due */
-#define PLANNER_REFUSAL_EXTRA 8      /* bytes after the last frame */
+#define PLANNER_REFUSAL_EXTRA 8      /* bytes after the last frame of edition 01 */
 #define PLANNER_REFUSAL_CLASHES 9    /* more than 1,024 clashes */
-#define PLANNER_REFUSAL_DELAYS 10    /* no starts meet the delays */
+#define PLANNER_REFUSAL_DELAYS 10    /* no starts meet the delays and the windows */
 #define PLANNER_REFUSAL_BUDGET 11    /* a budget above 1,000,000 */
 #define PLANNER_REFUSAL_RECORD 12    /* the record is not sound */
 #define PLANNER_REFUSAL_STARTS 13    /* the starts list is shorter than n */
@@ -170,14 +185,16 @@ typedef struct planner_text {
 #define PLANNER_REFUSAL_FORM 17      /* the plan text is not one B0 line with 01 and then only B1 lines, each of its length */
 #define PLANNER_REFUSAL_ORDER 18     /* the plan text's n is not the batch's, or its job lines are not jobs 0 to n - 1 in order */
 #define PLANNER_REFUSAL_INVALID 19   /* the plan is not valid, or its latency is wrong */
+#define PLANNER_REFUSAL_WINDOW 20    /* a window's job is of n or above or not above the window's before, or its earliest start is above 20,000 or above its latest */
 
 /* ---- the calls */
 
 /* Opens a batch file of `length` bytes.
- * Answers 0: the record is the fresh search of the file's batch, with 0 in the places that the batch does not use.
- * Answers 1 to 10: refused. The record is left as it was.
+ * Answers 0: the record is the fresh search of the file's batch, with 0 in the places that the batch does not use; a
+ * window without a line has `latest` 65535.
+ * Answers 1 to 10 or 20: refused. The record is left as it was.
  * Asked line by line, in a line PLANNER_REFUSAL_MISSING first and then _LINE, _FRAME, _EDITION, _COUNT, _JOB,
- * _WEIGHT; after the last line _EXTRA, _CLASHES, _DELAYS.
+ * _WEIGHT, _WINDOW; after the last line _EXTRA, _CLASHES, _DELAYS.
  */
 uint8_t planner_open(const uint8_t *file, size_t length, planner_record *record);
 
@@ -208,7 +225,7 @@ planner_text planner_write_batch(const planner_record *record, uint8_t *buffer, 
  * Answers 0: the file opens, the text is in form and names the batch's jobs in order, its starts are a valid plan,
  * and its latency is theirs. Neither the total nor whether the plan is the shortest is judged. A start may be later
  * than PLANNER_START, but a plan whose latency does not fit two bytes does not pass.
- * Answers 1 to 10: the file is refused, as by planner_open.
+ * Answers 1 to 10 or 20: the file is refused, as by planner_open.
  * Answers 17 to 19: the text is refused. Asked in this order, after the file: PLANNER_REFUSAL_FORM of the whole
  * text, _ORDER, _INVALID.
  * Neither is written to; they may overlap or be the same memory.
@@ -232,13 +249,17 @@ uint8_t planner_judge(const uint8_t *file, size_t file_length, const uint8_t *te
 PLANNER_LAYOUT(delay, sizeof(planner_delay) == 4 && offsetof(planner_delay, to) == 1);
 PLANNER_LAYOUT(delay_weight, offsetof(planner_delay, weight) == 2);
 PLANNER_LAYOUT(job, sizeof(planner_job) == 34 && offsetof(planner_job, masks) == 2);
-PLANNER_LAYOUT(batch, sizeof(planner_batch) == 1330 && offsetof(planner_batch, m) == 1);
-PLANNER_LAYOUT(batch_lists, offsetof(planner_batch, jobs) == 2 && offsetof(planner_batch, delays) == 818);
+PLANNER_LAYOUT(window, sizeof(planner_window) == 6 && offsetof(planner_window, earliest) == 2);
+PLANNER_LAYOUT(window_latest, offsetof(planner_window, latest) == 4);
+PLANNER_LAYOUT(batch, sizeof(planner_batch) == 1476 && offsetof(planner_batch, m) == 1);
+PLANNER_LAYOUT(batch_edition, offsetof(planner_batch, edition) == 2);
+PLANNER_LAYOUT(batch_lists, offsetof(planner_batch, jobs) == 4 && offsetof(planner_batch, delays) == 820);
+PLANNER_LAYOUT(batch_windows, offsetof(planner_batch, windows) == 1332);
 PLANNER_LAYOUT(turn, sizeof(planner_turn) == 4 && offsetof(planner_turn, side) == 2);
-PLANNER_LAYOUT(record, sizeof(planner_record) == 5484 && offsetof(planner_record, latency) == 4);
-PLANNER_LAYOUT(record_flags, offsetof(planner_record, found) == 6 && offsetof(planner_record, ended) == 8);
-PLANNER_LAYOUT(record_lists, offsetof(planner_record, starts) == 10 && offsetof(planner_record, batch) == 58);
-PLANNER_LAYOUT(record_path, offsetof(planner_record, path) == 1388);
+PLANNER_LAYOUT(record, sizeof(planner_record) == 5628 && offsetof(planner_record, latency) == 4);
+PLANNER_LAYOUT(record_flags, offsetof(planner_record, found) == 6 && offsetof(planner_record, ended) == 7);
+PLANNER_LAYOUT(record_lists, offsetof(planner_record, starts) == 8 && offsetof(planner_record, batch) == 56);
+PLANNER_LAYOUT(record_path, offsetof(planner_record, path) == 1532);
 PLANNER_LAYOUT(answer, sizeof(planner_answer) == 8 && offsetof(planner_answer, refusal) == 1);
 PLANNER_LAYOUT(answer_values, offsetof(planner_answer, latency) == 2 && offsetof(planner_answer, total) == 4);
 PLANNER_LAYOUT(text, sizeof(planner_text) == 16 && offsetof(planner_text, refusal) == 8);

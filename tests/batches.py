@@ -1,6 +1,7 @@
 """Random batches, running a program, calls and their answers, and the words of a test's command line.
 
-A batch is (jobs, delays): jobs are lists of masks."""
+A batch is (jobs, delays) in edition 01 and (jobs, delays, windows) in edition 02: jobs are lists of masks, windows have
+the earliest and the latest start of each job that has a line for them."""
 import os
 import subprocess
 import sys
@@ -71,11 +72,49 @@ def batch(rng, n, most_ticks):
     return jobs, delays[:128]
 
 
-def lines(jobs, delays):
+def least(n, delays, earliest):
+    """The least starts that keep the delays and are not before the earliest ones; none where no starts keep the delays."""
+    starts = list(earliest)
+    for _ in range(n):
+        new = [max([start] + [starts[i] + w for i, j, w in delays if j == job]) for job, start in enumerate(starts)]
+        if new == starts:
+            return starts
+        starts = new
+    return None
+
+
+def windows_for(rng, jobs, delays):
+    """Windows for some jobs of a batch, or for all. The latest starts are near the least ones that the delays and the
+    earliest starts leave, so that the windows often decide; now and then one is too early."""
+    n = len(jobs)
+    chosen = sorted(rng.sample(range(n), rng.choice([1, 1, 2, 3, n, n]) if n > 2 else rng.randint(0, n)))
+    spread = rng.choice([0, 2, 4, 4, 8, 20, 20, 20000])
+    earliest = [rng.randint(0, spread) if job in chosen and rng.random() < 0.7 else 0 for job in range(n)]
+    starts = least(n, delays, earliest) or earliest
+    slacks = rng.choice([[0, 0, 1], [0, 1, 2], [0, 2, 4], [3, 5, 8], [0, 4, 30], [2, 30, 65535]])
+    greed = rng.choice([0, 0, 0.2, 0.4])
+    windows = {}
+    for job in chosen:
+        slack = -1 if rng.random() < greed else rng.choice(slacks)  # -1 is too early where a delay holds the job back
+        windows[job] = (earliest[job], max(earliest[job], min(65535, starts[job] + slack)))
+    return windows
+
+
+def windowed(rng, made):
+    """A batch of edition 01 as one of edition 02."""
+    return made + (windows_for(rng, *made),)
+
+
+def lines(jobs, delays, windows=None):
     """The lines of the batch file, without their 0A."""
-    head = "A001%02X%02X" % (len(jobs), len(delays))
+    head = "A0%02X%02X%02X" % (1 if windows is None else 2, len(jobs), len(delays))
     tables = ["A1%02X" % len(masks) + "".join("%04X" % mask for mask in masks) for masks in jobs]
-    return [head] + tables + ["A2%02X%02X%04X" % (i, j, w & 0xFFFF) for i, j, w in delays]
+    kept = ["A2%02X%02X%04X" % (i, j, w & 0xFFFF) for i, j, w in delays]
+    return [head] + tables + kept + [window_line(job, *ends) for job, ends in sorted((windows or {}).items())]
+
+
+def window_line(job, earliest, latest):
+    return "A3%02X%04X%04X" % (job, earliest, latest)
 
 
 def joined(texts):

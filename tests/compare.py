@@ -6,34 +6,39 @@ from collections import Counter, namedtuple
 from concurrent.futures import ThreadPoolExecutor
 
 from batches import answers, clash_count, ending_soon, joined, lines, opening, output, words_of
-from files import all_files, past_the_cut, some_batch
-from lists import TEXTS, all_lists
+from files import all_files, past_the_cut, some_batch, some_windowed
+from lists import TEXTS, all_lists, all_lists_02
 from tally import Tally
 
 Known = namedtuple("Known", "data n m clashes total plan")
-DUE = ["O %d" % k for k in range(11)] + ["R S", "R P", "R N", "R F 11", "R F 12", "R F 13", "R F 14", "P W", "P F 12",
+DUE = ["O %d" % k for k in list(range(11)) + [20]] + ["R S", "R P", "R N", "R F 11", "R F 12", "R F 13", "R F 14", "P W", "P F 12",
                                          "P F 15", "P F 16", "B W", "B F 12", "B F 16", "D", "S"]
 # The clauses of soundness by the names that the independent program gives them. For each, so many lists must make a
-# call on a record that breaks this clause and no other: a planner without the clause gives them another answer.
+# call on a record that breaks this clause and no other: a planner without the clause gives them another answer. (But for
+# an earliest above its latest: such ends cannot be met either.)
 CLAUSES = ["n below 1", "n above 24", "m above 128", "p below 1", "p above 16", "from of n or above",
            "to of n or above", "from = to", "w below -1,000", "w above 1,000", "D above 1,024",
            "delays that cannot be met", "a clash that is not listed", "a side above 1", "one clash twice",
-           "a turn after an empty place", "a turn while ended", "total above 100,000,000", "a start above 23,000",
-           "latency above 23,016"]
+           "a turn after an empty place", "a turn while ended", "total above 100,000,000", "a start above 43,000",
+           "latency above 43,016", "edition below 1", "edition above 2", "a line in edition 1", "earliest above 20,000",
+           "earliest above latest", "an earliest without a line", "a latest without a line", "ends that cannot be met"]
 FEWEST = 10
-GONE_ON = 100  # lists, for each way to change tables, whose search goes on after it and ends in a plan
+GONE_ON = 100  # lists, for each way to change tables or windows, whose search goes on after it and ends in a plan
 
 
-def known_batches(rng, independent):
-    """Batches whose search ends soon, with their N by the independent program."""
-    made = [some_batch(rng, 9) for _ in range(500)]
-    made += [([[1, 2], [1, 2]], []), ([[1], [1, 2, 2]], []), ([[1], [1]], [(0, 1, 0), (1, 0, 0)])]
+def some_batches(rng):
+    return [some_batch(rng, 9) for _ in range(500)] + [
+        ([[1, 2], [1, 2]], []), ([[1], [1, 2, 2]], []), ([[1], [1]], [(0, 1, 0), (1, 0, 0)])]
+
+
+def known_batches(made, independent):
+    """Those batches whose search ends soon, with their N by the independent program."""
     calls = [call for one in made for call in (opening(joined(lines(*one))), "R 3000 24")]
-    for (jobs, delays), answer in zip(made, answers(independent, calls)[1::2]):
+    for one, answer in zip(made, answers(independent, calls)[1::2]):
         words = answer.split(" :")[0].split()
         if words[1] in "PN":
-            data = joined(lines(jobs, delays))
-            yield Known(data, len(jobs), len(delays), clash_count(jobs), int(words[-1]), words[1] == "P")
+            jobs, delays = one[:2]
+            yield Known(joined(lines(*one)), len(jobs), len(delays), clash_count(jobs), int(words[-1]), words[1] == "P")
 
 
 def in_cases(cases, given):
@@ -91,16 +96,17 @@ def check_clauses(tally, lists, said):
 
 
 def check_changed(tally, cases, due):
-    """Enough searches go on after their tables changed, in each way, and end in a plan."""
-    plans = {kind: 0 for kind, _ in cases if kind.startswith("list: last ticks")}
+    """Enough searches go on after their tables or windows changed, in each way, and end in a plan."""
+    changes = ("list: last ticks", "list: 02: last ticks", "list: 02: windows")
+    plans = {kind: 0 for kind, _ in cases if kind.startswith(changes)}
     for kind, _, given in in_cases(cases, due):
         if kind in plans:
             plans[kind] += " : B0" in given[-len(TEXTS)]
     for kind, count in plans.items():
         if count < GONE_ON:
-            tally.note("tables changed too seldom", False, kind, "%d plans" % GONE_ON, count)
-    if len(plans) < 5:
-        tally.note("tables changed too seldom", False, "ways to change them", 5, len(plans))
+            tally.note("batches changed too seldom", False, kind, "%d plans" % GONE_ON, count)
+    if len(plans) < 16:
+        tally.note("batches changed too seldom", False, "ways to change them", 16, len(plans))
     print("  plans after a change: " + "; ".join("%s: %d" % (kind[6:], count) for kind, count in plans.items()))
 
 
@@ -113,7 +119,7 @@ def compare_plan(tally, rng, plan, own, files):
         chosen.append(("two runs", file.read()))
     chosen.append(("eight jobs alike", joined(lines([[1, 1]] * 8, []))))
     for kind in dict(files):
-        chosen += [one for one in soon if one[0] == kind][:100 if kind == "valid" else 20]
+        chosen += [one for one in soon if one[0] == kind][:100 if kind.endswith("valid") else 20]
     for kind, data in chosen:
         due, got = output([own, "plan"], data), output([plan], data)
         tally.note("PLAN: " + kind, due == got, data[:200], due, got)
@@ -125,8 +131,11 @@ def main():
     plan, calls, own, counts = words_of("compare.py PLAN CALLS INDEPENDENT COUNTS")
     rng, tally = random.Random(1), Tally()
     files = all_files(rng)
-    known = list(known_batches(rng, [own, "calls"]))
+    known = list(known_batches(some_batches(rng), [own, "calls"]))
     lists = [("list: " + kind, listed) for kind, listed in all_lists(rng, known)]
+    second = random.Random(6)
+    windowed = list(known_batches([some_windowed(second, 8) for _ in range(300)], [own, "calls"]))
+    lists += [("list: " + kind, listed) for kind, listed in all_lists_02(second, known, windowed)]
     cases = [("file: " + kind, [opening(data), "R 40 24", "R 200 25"] + TEXTS) for kind, data in files] + lists
     every = [call for _, listed in cases for call in listed]
     asked = [call for _, listed in lists for call in listed]

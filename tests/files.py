@@ -1,10 +1,16 @@
-"""The files that are compared: valid batches, damaged ones, and those at the limits."""
-from batches import batch, joined, lines
+"""The files that are compared: valid batches, damaged ones, and those at the limits, of both editions."""
+import random
+
+from batches import batch, joined, lines, window_line, windowed
 
 DAMAGES = ["bit flipped", "byte replaced", "byte put in", "byte taken out", "digit replaced", "lower case",
            "line dropped", "line doubled", "lines swapped", "line cut short", "line extended", "empty line",
            "carriage return", "last 0A missing", "bytes after the end", "header", "ticks", "delay's jobs", "delay's weight"]
+DAMAGES_02 = DAMAGES + ["window's job", "window's ends", "windows' order", "kind of a further line", "length of a further line",
+                        "form of a further line", "delay among the windows"]
+KINDS = [0x00, 0x7F, 0xA0, 0xA1, 0xA2, 0xA3, 0xA4, 0xA5, 0xA6, 0xA7, 0xB0, 0xB1, 0xFF]  # only A3 is one of a further line
 NO_STARTS = [(0, 1, 1), (1, 0, 0)]  # no starts meet these delays
+SMALL_02 = ["A0020200", "A1010001", "A1010002"]  # two jobs on stations of their own; further lines may follow
 
 
 def some_batch(rng, most_jobs):
@@ -20,6 +26,10 @@ def of_every_size(rng, count):
 def test_batch(last):
     """01's test batch: D is 1,024 with a last job of 13 ticks, above with 14."""
     return [[1] * 16] * 8 + [[1], [2] * 16, [2] * last]
+
+
+def some_windowed(rng, most_jobs):
+    return windowed(rng, some_batch(rng, most_jobs))
 
 
 def damaged_line(rng, kind, line, spot, n):
@@ -41,22 +51,47 @@ def damaged_line(rng, kind, line, spot, n):
     if kind == "carriage return":
         return [line + "\r"]
     if kind == "header":
-        place, numbers = rng.choice([(2, [0, 2, 255]), (4, [0, n - 1, n + 1, 24, 25, 255]), (6, [0, 1, 128, 129, 255])])
+        editions = [0, 2, 255] if line[2:4] == "01" else [0, 1, 3, 255]
+        place, numbers = rng.choice([(2, editions), (4, [0, n - 1, n + 1, 24, 25, 255]), (6, [0, 1, 128, 129, 255])])
         return [line[:place] + "%02X" % rng.choice(numbers) + line[place + 2:]]
     p = rng.choice([0, 1, 15, 16, 17, 18, 127, 128, 255])  # ticks
     return ["A1%02X" % p + "0001" * max(0, rng.choice([p, p, p - 1, p + 1]))]
 
 
-def damaged(rng, kind, jobs, delays):
+def damaged_window(rng, kind, n):
+    """The lines that come in the place of a window's or behind the last one."""
+    job, right = rng.randrange(n), window_line(rng.randrange(n), 3, 9)
+    if kind == "window's job":
+        return [window_line(rng.choice([n, n + 1, 23, 24, 128, 255]), 0, 65535)]
+    if kind == "window's ends":
+        ends = [(20000, 20000), (20000, 65535), (20001, 20001), (20001, 65535), (32768, 65535), (65535, 65535), (5, 4),
+                (1, 0), (20000, 19999), (20001, 20000), (7, 7), (0, 0), (256, 1), (1, 256)]
+        return [window_line(job, *rng.choice(ends))]
+    if kind == "windows' order":
+        return [window_line(rng.randrange(n), rng.randint(0, 2), 65535) for _ in range(rng.choice([2, 2, 3, 25]))]
+    if kind == "kind of a further line":
+        return ["%02X" % rng.choice(KINDS) + right[2:]] + rng.choice([[], [right]])
+    if kind == "length of a further line":
+        kinds = ["A3", "A3", "A3%02X" % job, "A3%02X" % n, "A4", "A2"]
+        return [(rng.choice(kinds) + "00" * 20)[:2 * rng.choice([1, 2, 3, 4, 5, 7, 8, 12])]]
+    if kind == "form of a further line":
+        return [rng.choice(["", right.lower(), right[:-1], right + "0", right + "\r", right + "G", " " + right, right[2:], "\x00"])]
+    return ["A2%02X%02X0000" % (0, n - 1)]  # a delay
+
+
+def damaged(rng, kind, jobs, delays, windows=None):
     """The file of a batch with one thing wrong; now and then the damage leaves it right."""
     n = len(jobs)
     if kind == "delay's jobs":
         i, j = rng.choice([(0, 0), (n, 0), (0, n), (255, 0), (n - 1, n - 1), (n - 1, 0), (0, n - 1), (24, 0), (0, 128)])
-        return joined(lines(jobs, delays[1:] + [(i, j, rng.choice([0, 1, 1001]))]))
+        return joined(lines(jobs, delays[1:] + [(i, j, rng.choice([0, 1, 1001]))], windows))
     if kind == "delay's weight":
         w = rng.choice([1000, 1001, 1256, -1000, -1001, -1024, 32767, -32768, rng.randint(-1100, 1100)])
-        return joined(lines(jobs, delays[1:] + [(0, n - 1, w)]))
-    texts = lines(jobs, delays)
+        return joined(lines(jobs, delays[1:] + [(0, n - 1, w)], windows))
+    texts = lines(jobs, delays, windows)
+    if kind not in DAMAGES:  # a window's line, at any place among those that are there
+        place = rng.randint(1 + n + len(delays), len(texts))
+        return joined(texts[:place] + damaged_window(rng, kind, n) + texts[place + rng.randint(0, 1):])
     data = joined(texts)
     place = rng.randrange(len(data))
     if kind == "bit flipped":
@@ -111,6 +146,51 @@ def clash_limits():
         yield jobs, NO_STARTS
 
 
+def window_limits():
+    """Ends on both sides of their limits, for each job of a batch, and in every number."""
+    for n in (1, 2, 24):
+        jobs = [[1 << k % 16] for k in range(n)]
+        for job in {0, n - 1, n, 23, 24, 255}:
+            for ends in ((0, 65535), (0, 0), (19999, 65535), (20000, 20000), (20000, 65535), (20001, 65535), (20001, 20001),
+                         (65535, 65535), (1, 0), (20000, 19999), (256, 255), (255, 256), (4660, 22136)):
+                yield jobs, [], {job: ends}
+        for count in range(n + 1):
+            yield jobs, [], {job: (job, 65535 - job) for job in range(count)}
+    chain = [(k, k + 1, 1000) for k in range(23)]
+    for last in (42999, 43000):  # the last start is 20,000 and 23 times 1,000
+        yield [[0] * 15 + [1]] * 24, chain, {0: (20000, 65535), 23: (0, last)}
+        yield [[0] * 16] * 24, chain, {job: (20000, last) for job in range(24)}
+    yield [[0]] * 24, chain, {job: (20000 - 800 * job, 20000 + 1000 * job) for job in range(24)}
+
+
+def further_orders():
+    """Every two further lines out of right ones and of those that are refused, so that the first decides."""
+    texts = [window_line(0, 0, 65535), window_line(1, 2, 9), window_line(0, 3, 2), window_line(1, 20001, 65535), window_line(2, 0, 1),
+             "A300", "A30000000001FF", "A302000500", "A200010000", "A400010001", "A1010001", "A502000001", "A60102", "A70001", "FF",
+             "", "A3000000FFF", "a30000000001", "G"]
+    for first in texts:
+        yield joined(SMALL_02 + [first])
+        yield joined(SMALL_02 + [first])[:-1]
+        for second in texts:
+            yield joined(SMALL_02 + [first, second])
+
+
+def editions():
+    """Every edition, with a window's line and without; those of no further line that follows."""
+    for edition in range(256):
+        for tail in (b"", b"A30000000001\n", b"\n", b"0"):
+            yield b"A0%02X0100\nA1010001\n" % edition + tail
+
+
+def before_nine_and_ten():
+    """Files with more than 1,024 clashes, or with delays that cannot be met, whose further lines are right or not."""
+    for jobs, delays in ((test_batch(14), []), (test_batch(14), NO_STARTS), ([[1], [2]], NO_STARTS), (test_batch(13), NO_STARTS)):
+        for window in ("A30000000000", "A30000000001", "A30000010000", "A301FFFFFFFF", "A3FF00000001", "A300", "A4000001", "", "A3"):
+            yield joined(lines(jobs, delays, {}) + ([window] if window else []))
+            yield joined(lines(jobs, delays, {}) + [window])
+            yield joined(lines(jobs, delays, {0: (0, 0)}) + [window])
+
+
 def over_long():
     for length in (65524, 65525, 65526, 65527):
         for digits in ("0", "A1", "A110"):
@@ -143,4 +223,31 @@ def all_files(rng):
     made += [("carriage returns", joined(lines(*some_batch(rng, 5))).replace(b"\n", b"\r\n")) for _ in range(20)]
     made += [("limits", joined(lines(*one))) for one in limits()]
     made += [("clash limit", joined(lines(*one)) + end) for one in clash_limits() for end in (b"", b"\n")]
-    return made + [("over-long", data) for data in over_long()]
+    made += [("over-long", data) for data in over_long()]
+    return made + files_02(random.Random(5))
+
+
+def over_long_02():
+    head = joined(SMALL_02)
+    for length in range(65536 - len(head) - 3, 65536 - len(head) + 2):
+        for digits in ("0", "A3", "A4"):
+            yield (head + ((digits + "0" * 65536)[:length] + "\n").encode())[:65536]
+    yield head + b"\n" * 65508
+    yield head + joined([window_line(0, 0, 1)] * 5000)
+
+
+def files_02(rng):
+    """Those of edition 02."""
+    made = [("02: valid", joined(lines(*some_windowed(rng, [12, 24, 5, 5][k % 4])))) for k in range(700)]
+    made += [("02: " + kind, damaged(rng, kind, *some_windowed(rng, 5))) for kind in DAMAGES_02 for _ in range(80)]
+    small = joined(["A0020201", "A1010001", "A102FF010002", "A20001FFFF", "A30000050007", "A3010004FFFF"])
+    made += [("02: " + kind, data) for kind, data in every_place(small)]
+    for _ in range(8):
+        data = joined(lines(*some_windowed(rng, 4)))
+        made += [("02: every place cut", data[:place]) for place in range(len(data) + 1)]
+    made += [("02: limits of ends", joined(lines(*one))) for one in window_limits()]
+    made += [("02: limits", joined(lines(*one, {}))) for one in limits()]
+    for name, files in (("lines in twos", further_orders()), ("editions", editions()), ("over-long", over_long_02()),
+                        ("20 before 9 and 10", before_nine_and_ten())):
+        made += [("02: " + name, data) for data in files]
+    return made

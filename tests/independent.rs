@@ -1,5 +1,5 @@
-// The planner of document 01 with the judge and the latency of document 02, once more: written from their text alone, to
-// compare with. `independent plan` behaves as the program `plan`, `independent calls` as the check program.
+// The planner of document 01 with the judge, the latency and edition 02 of document 02, once more: written from their text
+// alone, to compare with. `independent plan` behaves as the program `plan`, `independent calls` as the check program.
 // `independent clauses` takes the same calls and answers an R, P or B with its letter and the clauses of soundness that
 // its record breaks.
 use std::collections::HashSet;
@@ -10,13 +10,25 @@ const EMPTY: (u64, u64) = (65535, 0);
 /// A delay or a turn's inequality: t_j - t_i >= w.
 type Inequality = (usize, usize, i64);
 
+/// A job's ends, and whether it has a line for them: 0 for none, anything else for one.
+#[derive(Clone, Copy)]
+struct Window {
+    lined: u64,
+    earliest: u64,
+    latest: u64,
+}
+
+const NO_LINE: Window = Window { lined: 0, earliest: 0, latest: 65_535 };
+
 #[derive(Clone)]
 struct Record {
     n: usize,
     m: usize,
+    edition: u64,
     ticks: [usize; 24],
     masks: [[u64; 16]; 24],
     delays: [Inequality; 128],
+    windows: [Window; 24],
     path: [(u64, u64); 1024],
     best: Option<u64>,
     starts: [u64; 24],
@@ -35,9 +47,11 @@ fn blank() -> Record {
     Record {
         n: 0,
         m: 0,
+        edition: 1,
         ticks: [0; 24],
         masks: [[0; 16]; 24],
         delays: [(0, 0, 0); 128],
+        windows: [NO_LINE; 24],
         path: [EMPTY; 1024],
         best: None,
         starts: [0; 24],
@@ -85,7 +99,8 @@ fn open(mut file: &[u8]) -> Result<Record, u64> {
     let mut r = blank();
     let head = next_line(&mut file)?;
     refuse(2, head[0] != 0xA0 || head.len() != 4)?;
-    refuse(3, head[1] != 1)?;
+    refuse(3, head[1] != 1 && head[1] != 2)?;
+    r.edition = head[1] as u64;
     r.n = head[2] as usize;
     r.m = head[3] as usize;
     refuse(4, r.n < 1 || r.n > 24 || r.m > 128)?;
@@ -107,10 +122,42 @@ fn open(mut file: &[u8]) -> Result<Record, u64> {
         refuse(6, w < -1000 || w > 1000)?;
         r.delays[delay] = (i, j, w);
     }
-    refuse(8, !file.is_empty())?;
+    if r.edition == 1 {
+        refuse(8, !file.is_empty())?;
+    }
+    further_lines(&mut r, file)?;
     refuse(9, clashes(&r).len() > 1024)?;
-    refuse(10, least_starts(r.n, &r.delays[..r.m]).is_none())?;
+    refuse(10, least_starts(&r.windows[..r.n], &r.delays[..r.m]).is_none())?;
     Ok(r)
+}
+
+/// The lines after the delays, of kinds that never fall, up to the end of the file.
+fn further_lines(r: &mut Record, mut file: &[u8]) -> Result<(), u64> {
+    let mut kind_before = 0;
+    let mut job_before = None;
+    while !file.is_empty() {
+        let line = next_line(&mut file)?;
+        let kind = line[0];
+        refuse(2, kind < kind_before)?;
+        kind_before = kind;
+        match kind {
+            0xA3 => window_line(r, &line, &mut job_before)?,
+            _ => return Err(2),
+        }
+    }
+    Ok(())
+}
+
+/// A3, job, earliest, latest.
+fn window_line(r: &mut Record, line: &[u8], job_before: &mut Option<usize>) -> Result<(), u64> {
+    refuse(2, line.len() != 6)?;
+    let job = line[1] as usize;
+    let (earliest, latest) = (number_of(&line[2..4]), number_of(&line[4..6]));
+    refuse(20, job >= r.n || job_before.is_some_and(|before| job <= before))?;
+    refuse(20, earliest > 20_000 || earliest > latest)?;
+    *job_before = Some(job);
+    r.windows[job] = Window { lined: 1, earliest, latest };
+    Ok(())
 }
 
 // ---- latency, clashes, least starts, soundness
@@ -145,8 +192,10 @@ fn clashes(r: &Record) -> Vec<Inequality> {
     list
 }
 
-fn least_starts(n: usize, inequalities: &[Inequality]) -> Option<Vec<i64>> {
-    let mut starts = vec![0i64; n];
+/// The starts after the rounds, the latest ones not looked at; none if round n still changes something.
+fn after_rounds(windows: &[Window], inequalities: &[Inequality]) -> Option<Vec<i64>> {
+    let n = windows.len();
+    let mut starts: Vec<i64> = windows.iter().map(|window| window.earliest as i64).collect();
     for round in 1..=n {
         let mut new = starts.clone();
         for &(i, j, w) in inequalities {
@@ -163,11 +212,22 @@ fn least_starts(n: usize, inequalities: &[Inequality]) -> Option<Vec<i64>> {
     Some(starts)
 }
 
+/// Whether no start passes its latest.
+fn in_time(windows: &[Window], starts: &[i64]) -> bool {
+    starts.iter().zip(windows).all(|(start, window)| *start <= window.latest as i64)
+}
+
+/// A window for each job.
+fn least_starts(windows: &[Window], inequalities: &[Inequality]) -> Option<Vec<i64>> {
+    after_rounds(windows, inequalities).filter(|starts| in_time(windows, starts))
+}
+
 /// What the clauses of soundness look at: as much of a record as its limits let be read.
 struct Parts<'a> {
     record: &'a Record,
     ticks: &'a [usize],       // of the jobs; nothing if n is above 24
     delays: &'a [Inequality], // nothing if m is above 128
+    windows: &'a [Window],    // of the jobs; nothing if n is above 24
     turns: Vec<(u64, u64)>,   // the places of the path that are not empty, wherever they stand
     readable: bool,           // the jobs are: n is at most 24 and every p at most 16
     clashes: Vec<Inequality>, // nothing if they are not
@@ -180,6 +240,7 @@ fn parts(r: &Record) -> Parts<'_> {
         record: r,
         ticks,
         delays: r.delays.get(..r.m).unwrap_or(&[]),
+        windows: r.windows.get(..r.n).unwrap_or(&[]),
         turns: r.path.iter().copied().filter(|place| *place != EMPTY).collect(),
         readable,
         clashes: if readable { clashes(r) } else { Vec::new() },
@@ -189,7 +250,7 @@ fn parts(r: &Record) -> Parts<'_> {
 /// A clause of soundness: its name, and whether a record breaks it. Where it cannot be asked it is not broken.
 type Clause = (&'static str, fn(&Parts) -> bool);
 
-/// All of them, in the order of 01's sentence. A record is sound if it breaks none.
+/// All of them, in the order of 01's sentence and then of 02's. A record is sound if it breaks none.
 const CLAUSES: &[Clause] = &[
     ("n below 1", |it| it.record.n < 1),
     ("n above 24", |it| it.record.n > 24),
@@ -209,14 +270,35 @@ const CLAUSES: &[Clause] = &[
     ("a turn after an empty place", |it| turns(it.record) < it.turns.len()),
     ("a turn while ended", |it| it.record.ended && !it.turns.is_empty()),
     ("total above 100,000,000", |it| it.record.total > 100_000_000),
-    ("a start above 23,000", late_start),
-    ("latency above 23,016", |it| it.record.best.is_some_and(|latency| latency > 23_016)),
+    ("a start above 43,000", late_start),
+    ("latency above 43,016", |it| it.record.best.is_some_and(|latency| latency > 43_016)),
+    ("edition below 1", |it| it.record.edition < 1),
+    ("edition above 2", |it| it.record.edition > 2),
+    ("a line in edition 1", |it| it.record.edition == 1 && it.windows.iter().any(|window| window.lined != 0)),
+    ("earliest above 20,000", |it| it.windows.iter().any(|window| window.lined != 0 && window.earliest > 20_000)),
+    ("earliest above latest", |it| it.windows.iter().any(|window| window.lined != 0 && window.earliest > window.latest)),
+    ("an earliest without a line", |it| it.windows.iter().any(|window| window.lined == 0 && window.earliest != 0)),
+    ("a latest without a line", |it| it.windows.iter().any(|window| window.lined == 0 && window.latest != 65_535)),
+    ("ends that cannot be met", passed_ends),
 ];
+
+/// The starts after the rounds with the delays alone; nothing where a delay names no job of the batch.
+fn rounds_of(it: &Parts) -> Option<Option<Vec<i64>>> {
+    let n = it.record.n;
+    let named = n <= 24 && it.delays.iter().all(|&(i, j, _)| i < n && j < n);
+    named.then(|| after_rounds(it.windows, it.delays))
+}
 
 /// Asked where every delay names jobs of the batch.
 fn no_starts(it: &Parts) -> bool {
-    let n = it.record.n;
-    n <= 24 && it.delays.iter().all(|&(i, j, _)| i < n && j < n) && least_starts(n, it.delays).is_none()
+    rounds_of(it).is_some_and(|starts| starts.is_none())
+}
+
+/// Asked where every delay names jobs of the batch, the delays can be met, and no earliest start is above the latest.
+fn passed_ends(it: &Parts) -> bool {
+    let starts = rounds_of(it).flatten();
+    let ordered = it.windows.iter().all(|window| window.earliest <= window.latest);
+    ordered && starts.is_some_and(|starts| !in_time(it.windows, &starts))
 }
 
 /// Asked where the clashes are known.
@@ -232,7 +314,7 @@ fn twice(it: &Parts) -> bool {
 
 /// Asked where there is a best; starts past n do not count.
 fn late_start(it: &Parts) -> bool {
-    it.record.best.is_some() && it.record.starts.iter().take(it.record.n).any(|start| *start > 23_000)
+    it.record.best.is_some() && it.record.starts.iter().take(it.record.n).any(|start| *start > 43_000)
 }
 
 /// The clashes of the record's batch if the record is sound.
@@ -276,7 +358,7 @@ fn node(r: &mut Record, list: &[Inequality]) {
         let (i, j, d) = list[clash as usize];
         inequalities.push(if side == 0 { (i, j, d + 1) } else { (j, i, 1 - d) });
     }
-    let Some(t) = least_starts(r.n, &inequalities) else {
+    let Some(t) = least_starts(&r.windows[..r.n], &inequalities) else {
         return go_back(r);
     };
     let latency = latency(r, t.iter().map(|start| *start as u64));
@@ -340,7 +422,7 @@ fn plan_text(r: &Record) -> Result<String, u64> {
 
 fn batch_text(r: &Record) -> Result<String, u64> {
     refuse(12, sound(r).is_none())?;
-    let mut text = format!("A001{:02X}{:02X}\n", r.n, r.m);
+    let mut text = format!("A0{:02X}{:02X}{:02X}\n", r.edition, r.n, r.m);
     for i in 0..r.n {
         text += &format!("A1{:02X}", r.ticks[i]);
         for mask in &r.masks[i][..r.ticks[i]] {
@@ -350,6 +432,9 @@ fn batch_text(r: &Record) -> Result<String, u64> {
     }
     for &(i, j, w) in &r.delays[..r.m] {
         text += &format!("A2{:02X}{:02X}{:04X}\n", i, j, w as i16 as u16);
+    }
+    for (job, window) in r.windows[..r.n].iter().enumerate().filter(|(_, window)| window.lined != 0) {
+        text += &format!("A3{:02X}{:04X}{:04X}\n", job, window.earliest, window.latest);
     }
     Ok(text)
 }
@@ -397,12 +482,13 @@ fn held(r: &Record, job: usize, start: u64) -> Vec<(u64, u64)> {
     list
 }
 
-/// Every delay is kept, and no station is held twice in a tick.
+/// Every delay is kept, every start is within its ends, and no station is held twice in a tick.
 fn valid(r: &Record, starts: &[u64]) -> bool {
     let kept = |&(i, j, w): &Inequality| starts[j] as i64 - starts[i] as i64 >= w;
+    let within = |(start, window): (&u64, &Window)| (window.earliest..=window.latest).contains(start);
     let all: Vec<(u64, u64)> = (0..r.n).flat_map(|job| held(r, job, starts[job])).collect();
     let different: HashSet<&(u64, u64)> = all.iter().collect();
-    r.delays[..r.m].iter().all(kept) && different.len() == all.len()
+    r.delays[..r.m].iter().all(kept) && starts.iter().zip(&r.windows).all(within) && different.len() == all.len()
 }
 
 fn judge(file: &[u8], text: &[u8]) -> Result<(), u64> {
@@ -432,13 +518,16 @@ fn plan(file: &[u8]) -> String {
 // ---- the check program
 
 fn shown(r: &Record) -> String {
-    let mut numbers = vec![r.n as u64, r.m as u64];
+    let mut numbers = vec![r.n as u64, r.m as u64, r.edition];
     for i in 0..24 {
         numbers.push(r.ticks[i] as u64);
         numbers.extend(r.masks[i]);
     }
     for (i, j, w) in r.delays {
         numbers.extend([i as u64, j as u64, (w + 32768) as u64]);
+    }
+    for window in r.windows {
+        numbers.extend([window.lined, window.earliest, window.latest]);
     }
     for (clash, side) in r.path {
         numbers.extend([clash, side]);
@@ -458,15 +547,15 @@ fn shown(r: &Record) -> String {
 /// Sets one place; false where an argument is out of range.
 fn set(r: &mut Record, field: u64, a: usize, b: usize, value: u64) -> bool {
     let most = match field {
-        0 | 1 | 2 | 4 | 5 => 255,
-        3 | 6 | 7 | 8 | 10 => 65_535,
+        0 | 1 | 4 | 5 => 255,
+        2 | 3 | 6 | 7 | 8 | 10 | 13..=16 => 65_535,
         9 => 65_536,
         11 => 4_294_967_295,
         12 => 1,
         _ => return false,
     };
     let places = match field {
-        2 | 3 | 10 => 24,
+        2 | 3 | 10 | 14..=16 => 24,
         4 | 5 | 6 => 128,
         7 | 8 => 1024,
         _ => usize::MAX,
@@ -487,7 +576,11 @@ fn set(r: &mut Record, field: u64, a: usize, b: usize, value: u64) -> bool {
         9 => r.best = if value == 65_536 { None } else { Some(value) },
         10 => r.starts[a] = value,
         11 => r.total = value,
-        _ => r.ended = value == 1,
+        12 => r.ended = value == 1,
+        13 => r.edition = value,
+        14 => r.windows[a].lined = value,
+        15 => r.windows[a].earliest = value,
+        _ => r.windows[a].latest = value,
     }
     true
 }

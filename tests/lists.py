@@ -1,11 +1,13 @@
 """The lists of calls that are compared. Each begins with an opening."""
-from batches import clash_count, joined, lines, opening
+from batches import clash_count, joined, lines, opening, windows_for
 from files import test_batch
 from plans import read_file
 
+# Fields of the call S by their numbers.
+EDITION, LINED, EARLIEST, LATEST = 13, 14, 15, 16
 NONE = 65536  # best's value for none
 EMPTY = 65535
-TEXTS = ["P 240", "B 3080", "D"]  # long enough for every plan and batch
+TEXTS = ["P 240", "B 3390", "D"]  # long enough for every plan and batch
 # Ticks of jobs, station by station: 995 to 1,023 clashes, so that two more jobs can make them 1,024.
 CLASH_GROUPS = [[[16] * 8 + [1]], [[3] * 15 + [2] * 7], [[8] * 10 + [9] * 2], [[16] * 6, [16] * 3 + [12] * 3 + [10]],
                 [[16] * 5, [16] * 5, [16] * 5, [16, 14, 10]]]
@@ -41,7 +43,7 @@ def deep_paths(rng):
     for name in ("css21", "twelve", "full", "clashes-400", "clashes-1024", "scope-limit"):
         with open("../bench/batches/%s.batch" % name, "rb") as file:
             data = file.read()
-        jobs, _ = read_file(data)
+        jobs = read_file(data)[0]
         for k in range(8):
             budgets = [rng.choice([1, 2, 7, 8, 9, 33, 100, 1000, rng.randint(1, 3000)]) for _ in range(12)]
             calls = [call for b in budgets for call in ("R %d 24" % b, "D")]
@@ -79,7 +81,7 @@ def edits(n, m, clashes):
     for value in (0, m - 1, m + 1, 128, 129, 255):
         yield [one(1, 0, value)]
     for job in (0, n - 1, n, 23):
-        for value in (0, 1, 16, 17, 255):
+        for value in (0, 1, 16, 17, 255, 256, 257, 272, 65535):
             yield [one(2, job, value)]
         for tick in (0, 15):
             for value in (0, 65535):
@@ -106,22 +108,52 @@ def edits(n, m, clashes):
         yield turn(1023, EMPTY, side)
         yield fresh + turn(0, 0, side) + [one(12, 0, 1)]  # a turn while ended
         yield fresh + [one(12, 0, 1)]
-    for best in (0, 1, 23015, 23016, 23017, 65535, NONE):
+    for best in (0, 1, 23016, 23017, 43015, 43016, 43017, 65535, NONE):
         for ended in (0, 1):
             yield [one(9, 0, best), one(12, 0, ended)]
-    for best in (40, 23016, NONE):
+    for best in (40, 43016, NONE):
         for job in (0, n - 1, n, 23):
-            for start in (22999, 23000, 23001, 60000, 65535):
+            for start in (23000, 23001, 42999, 43000, 43001, 60000, 65535):
                 yield [one(9, 0, best), one(10, job, start)]
     for total in (0, 99000000, 99000001, 99999996, 99999997, 99999998, 99999999, 100000000, 100000001, 4294967295):
         yield [one(11, 0, total)]
 
 
-def soundness(batch):
-    after = ["D", "R 3 24", "D", "P 240", "B 3080", "R 1000001 0", "R 1 0", "R 1000000 25", "D", "P 240"]
+def window(job, lined, earliest, latest):
+    return ["S %d %d 0 %d" % one for one in ((LINED, job, lined), (EARLIEST, job, earliest), (LATEST, job, latest))]
+
+
+def edition(number):
+    return ["S %d 0 0 %d" % (EDITION, number)]
+
+
+def window_edits(n):
+    """Changes of edition and windows that break one condition of soundness, or just do not."""
+    none = [call for job in range(24) for call in window(job, 0, 0, 65535)]
+    for number in (0, 1, 2, 3, 256, 257, 258, 65535):
+        yield edition(number)
+        yield none + edition(number)
+        yield none + edition(number) + window(n, 1, 7, 3)  # where windows do not count
+    for job in {0, n - 1, n, 23}:
+        for lined in (0, 1, 256, 65535):
+            for ends in ((0, 65535), (0, 65534), (1, 65535), (0, 0), (0, 2), (9, 9), (20000, 65535), (20001, 65535), (20000, 20000),
+                         (65535, 65535), (5, 4), (20000, 19999), (0, 32768), (4, 260), (260, 4)):
+                yield none + edition(2) + window(job, lined, *ends)
+            yield none + edition(1) + window(job, lined, 0, 65535)
+            yield none + edition(1) + window(job, lined, 3, 65535)
+    for job in range(n):  # every window has a place of its own
+        yield none + edition(2) + window(job, 1, 100 + job, 65535 - job)
+        yield none + edition(2) + window(job, 1, 20001, 65535)
+        yield none + edition(2) + window(job, 0, 0, 65534)
+        yield none + edition(1) + window(job, 1, 0, 65535)
+    yield none + edition(2) + [call for job in range(n) for call in window(job, 1 + job, 5, 4000)]
+
+
+def soundness(batch, changes=None):
+    after = ["D", "R 3 24", "D", "P 240", "B 3390", "R 1000001 0", "R 1 0", "R 1000000 25", "D", "P 240"]
     for state in states(batch):
-        for edit in edits(batch.n, batch.m, batch.clashes):
-            yield "soundness", state + edit + after
+        for edit in changes or edits(batch.n, batch.m, batch.clashes):
+            yield "soundness" + (" of windows" if changes else ""), state + edit + after
 
 
 def foreign(rng, batch):
@@ -149,11 +181,45 @@ def table_changes(rng, job, p):
 def changed_tables(rng, batch):
     """Searches that go on after the tables of two jobs changed, each job's in the same way: so that it finishes earlier,
     later, or when it did."""
-    jobs, _ = read_file(batch.data)
+    jobs = read_file(batch.data)[0]
     pair = [rng.randrange(batch.n) for _ in range(2)]
     for (name, first), (_, second) in zip(*(list(table_changes(rng, job, len(jobs[job]))) for job in pair)):
         begun = [opening(batch.data), "R %d 24" % rng.choice([0, rng.randrange(batch.total), batch.total - 1])]
         yield "last ticks " + name, begun + first + second + ["D", "R 1 24", "D", "R 9 24", "D", "R 2000 24"] + TEXTS
+
+
+def window_changes(rng, batch):
+    """Changes of a batch's windows, by name. Those that are there are all taken away first."""
+    jobs, delays, _ = read_file(batch.data)
+    job, none = rng.randrange(batch.n), [call for job in range(24) for call in window(job, 0, 0, 65535)]
+    made = [call for job, ends in windows_for(rng, jobs, delays).items() for call in window(job, rng.choice([1, 2, 256]), *ends)]
+    yield "taken away", none + edition(rng.choice([1, 2]))
+    yield "others", none + edition(2) + made
+    yield "one job later", none + edition(2) + window(job, 1, rng.randint(1, 30), 65535)
+    yield "one job not late", none + edition(2) + window(job, 1, 0, rng.randint(0, 12))
+    yield "all later", none + edition(2) + [call for job in range(batch.n) for call in window(job, 9, rng.randint(19000, 20000), 65535)]
+    yield "where none count", window(batch.n, 3, 20001, 7) + window(23, 1, 9, 9)
+
+
+def changed_windows(rng, batch):
+    """Searches that go on after their windows changed."""
+    for name, changes in window_changes(rng, batch):
+        begun = [opening(batch.data), "R %d 24" % rng.choice([0, 0, rng.randrange(batch.total), batch.total - 1])]
+        yield "windows " + name, begun + changes + ["D", "R 1 24", "D", "R 9 24", "D", "R 2000 24"] + TEXTS
+
+
+def deep_windows(rng):
+    """Searches whose paths are long, with windows that change them: some jobs not before a tick, others not after one."""
+    for name in ("css21", "twelve", "full", "clashes-400", "clashes-1024", "scope-limit"):
+        with open("../bench/batches/%s.batch" % name, "rb") as file:
+            jobs, delays, _ = read_file(file.read())
+        for far in (3, 6, 6, 40):
+            chosen = rng.sample(range(len(jobs)), 5)
+            windows = {job: (rng.randint(1, far), 65535) for job in chosen[:3]}
+            windows.update({job: (0, rng.randint(30, 300)) for job in chosen[3:]})
+            budgets = [rng.choice([1, 2, 9, 33, 100, 1000, rng.randint(1, 3000)]) for _ in range(12)]
+            calls = [call for b in budgets for call in ("R %d 24" % b, "D")]
+            yield "deep paths, windows", [opening(joined(lines(jobs, delays, windows)))] + calls + TEXTS
 
 
 def full_path():
@@ -221,3 +287,21 @@ def all_lists(rng, known):
         made += foreign(rng, batch)
         made += changed_tables(rng, batch)
     return made + list(full_path()) + list(clash_limit(rng)) + list(deep_paths(rng))
+
+
+def all_lists_02(rng, known, windowed):
+    """Every list with windows, from batches of edition 01 and from those of edition 02."""
+    made = [one for batch in windowed for one in runs(rng, batch)]
+    deep = [batch for batch in windowed if batch.total >= 5]
+    for batch in deep[:12] + [batch for batch in windowed if not batch.plan][:4]:
+        made += lengths(batch)
+    for batch in [batch for batch in deep if batch.m >= 2][:2]:
+        made += soundness(batch)
+    for batch in [batch for batch in known if batch.total >= 5][:2] + deep[:4]:
+        made += soundness(batch, list(window_edits(batch.n)))
+    for batch in windowed:
+        made += foreign(rng, batch)
+        made += changed_tables(rng, batch)
+    for batch in known[::3] + windowed:
+        made += changed_windows(rng, batch)
+    return [("02: " + kind, calls) for kind, calls in made + list(deep_windows(rng))]

@@ -7,20 +7,22 @@ usage: padding.py PLAN CALLS INDEPENDENT COUNTS     COUNTS gets the numbers of r
 import random
 from collections import Counter
 
-from batches import answers, clash_count, ending_soon, joined, lines, opening, output, stay, words_of
+from batches import answers, clash_count, ending_soon, joined, lines, opening, output, stay, windowed, words_of
 from files import NO_STARTS, of_every_size, test_batch
 from lists import CLASH_GROUPS, most_clashes, turn
 from plans import outlasted, starts_of
 from tally import Tally
 
 BATCHES = 600
-IN_CALLS = 120  # of them, through CALLS
+WINDOWED = 240  # more, of edition 02
+IN_CALLS = 120  # of the first, and half as many of the others, through CALLS
 TICKS = 16  # of the longest table
 BUDGETS = [0, 1, 1, 1, 2, 5, 30, 20000]
 LISTED = " : " + " ".join(str(60000 + place) for place in range(24))  # a starts list that is unchanged
 # Forms of batches by what they are examples of, and how many of each must at least come.
 FEWEST = {"a plan": 600, "no plan": 100, "refused by 10": 100, "delays": 500, "no delays": 200,
           "a longer longest table": 500, "a latency below a start plus all ticks": 400, "latency 0": 20,
+          "windows, a plan": 400, "windows, no plan": 100, "windows, refused by 10": 150,
           "clashes counted": 300, "1,024 clashes padded": 40, "1,025 clashes padded": 40}
 
 
@@ -37,12 +39,12 @@ def padded(rng, jobs, share):
             for masks in jobs]
 
 
-def forms(rng, jobs, delays):
-    """The forms of a batch, each as (name, jobs, file)."""
+def forms(rng, jobs, *rest):
+    """The forms of a batch, each as (name, jobs, file). The rest are its delays and, in edition 02, its windows."""
     made = {"as made": jobs, "bare": bare(jobs), "some padded": padded(rng, jobs, 0.5),
             "one padded": jobs[:-1] + padded(rng, jobs[-1:], 1), "all padded": padded(rng, bare(jobs), 1),
             "filled up": [masks + [0] * (TICKS - len(masks)) for masks in jobs]}
-    return [(name, form, joined(lines(form, delays))) for name, form in made.items()]
+    return [(name, form, joined(lines(form, *rest))) for name, form in made.items()]
 
 
 def at_the_limit(rng):
@@ -57,10 +59,13 @@ def at_the_limit(rng):
 
 # ---- the comparisons
 
-def examples_of(jobs, delays, form, text):
+def examples_of(jobs, delays, windows, form, text):
     """What a form of a batch is an example of, by the text that is due."""
-    yield {b"B0": "a plan", b"B2": "no plan"}.get(text[:2], "refused by %d" % int(text[2:4], 16))
+    answer = {b"B0": "a plan", b"B2": "no plan"}.get(text[:2], "refused by %d" % int(text[2:4], 16))
+    yield answer
     yield "delays" if delays else "no delays"
+    if windows:
+        yield "windows, " + answer
     if max(map(len, form)) > max(map(len, bare(jobs))):
         yield "a longer longest table"
     if text.startswith(b"B0"):
@@ -74,13 +79,13 @@ def examples_of(jobs, delays, form, text):
 def compare_texts(tally, rng, plan, own, batches):
     """PLAN's text, refusals too: starts, latency and total. What the forms are examples of, and the numbers of jobs."""
     seen, sizes = Counter(), set()
-    for jobs, delays in batches:
-        due = output([own, "plan"], joined(lines(bare(jobs), delays)))
+    for jobs, *rest in batches:
+        due = output([own, "plan"], joined(lines(bare(jobs), *rest)))
         sizes.add(len(jobs))
-        for name, form, data in forms(rng, jobs, delays):
+        for name, form, data in forms(rng, jobs, *rest):
             got = output([plan], data)
             tally.note("PLAN: " + name, due == got, data[:200], due, got)
-            seen.update(examples_of(jobs, delays, form, due))
+            seen.update(examples_of(jobs, rest[0], rest[1:] and rest[1], form, due))
     return seen, sizes
 
 
@@ -92,9 +97,9 @@ def but_tables(answer):
 def compare_runs(tally, rng, calls, own, batches):
     """Runs of few nodes and of many: answers, starts lists, paths, best, plan text. The batch text is the file."""
     runs = [call for budget in BUDGETS for call in ("R %d 24" % budget, "D")] + ["P 240"]
-    for jobs, delays in batches:
-        due = [but_tables(one) for one in answers([own, "calls"], [opening(joined(lines(bare(jobs), delays)))] + runs)]
-        for name, _, data in forms(rng, jobs, delays):
+    for jobs, *rest in batches:
+        due = [but_tables(one) for one in answers([own, "calls"], [opening(joined(lines(bare(jobs), *rest)))] + runs)]
+        for name, _, data in forms(rng, jobs, *rest):
             written = "B W %d : %s" % (len(data), data.decode().replace("\n", "/"))
             got = [but_tables(one) for one in answers([calls], [opening(data)] + runs + ["B %d" % len(data)])]
             tally.note("CALLS: runs, " + name, due + [written] == got, data[:200], due, got)
@@ -103,10 +108,10 @@ def compare_runs(tally, rng, calls, own, batches):
 def compare_clashes(tally, rng, calls, batches):
     """A turn on the last clash is sound, one on the number after it is not. How many forms had clashes to count."""
     counted = 0
-    for jobs, delays in batches:
+    for jobs, *rest in batches:
         count = clash_count(bare(jobs))
         numbers = [(count - 1, "R S 0"), (count, "R F 12")] if count else [(0, "R F 12")]
-        for name, _, data in forms(rng, jobs, delays):
+        for name, _, data in forms(rng, jobs, *rest):
             asked = [call for clash, _ in numbers for call in turn(0, clash, 0) + ["R 0 24"]]
             due = ["O 0"] + [one for _, answer in numbers for one in ("S", "S", answer + LISTED)]
             got = answers([calls], [opening(data)] + asked)
@@ -139,13 +144,20 @@ def check_kinds(tally, seen, sizes):
         tally.note("forms too much alike", False, "numbers of jobs", 24, sorted(sizes))
 
 
-def main():
-    plan, calls, own, counts = words_of("padding.py PLAN CALLS INDEPENDENT COUNTS")
-    rng, tally = random.Random(4), Tally()
-    made = [(one, joined(lines(*one))) for one in of_every_size(rng, BATCHES)]
+def sifted(own, batches, most):
+    """Of batches those that are refused or end soon, and the first so many that open."""
+    made = [(one, joined(lines(*one))) for one in batches]
     soon = [one for one, _ in ending_soon([own, "calls"], made)]
     given = answers([own, "calls"], [opening(data) for _, data in made])
-    opened = [one for (one, _), answer in zip(made, given) if answer == "O 0"][:IN_CALLS]
+    return soon, [one for (one, _), answer in zip(made, given) if answer == "O 0"][:most]
+
+
+def main():
+    plan, calls, own, counts = words_of("padding.py PLAN CALLS INDEPENDENT COUNTS")
+    rng, tally, second = random.Random(4), Tally(), random.Random(7)
+    soon, opened = sifted(own, of_every_size(rng, BATCHES), IN_CALLS)
+    others = sifted(own, [windowed(second, one) for one in of_every_size(second, WINDOWED)], IN_CALLS // 2)
+    soon, opened = soon + others[0], opened + others[1]
     limits = list(at_the_limit(rng))
     seen, sizes = compare_texts(tally, rng, plan, own, soon)
     compare_runs(tally, rng, calls, own, opened)

@@ -16,7 +16,7 @@ import time
 from collections import namedtuple
 
 from batches import ending_soon, joined, lines, output, words_of
-from files import some_batch
+from files import SMALL_02, some_batch, some_windowed
 from tally import Tally
 
 TIME = 10  # seconds that a case may take
@@ -35,7 +35,9 @@ Answer = namedtuple("Answer", "printed said status")  # standard output, standar
 ENDLESS = Answer(b"", b"no end in time", None)
 # The answers that a kind of case is about.
 ABOUT = {"bytes after the end": [b"BF08\n"], "a stop in the middle": [b"BF01\n", b"BF07\n"], "nothing": [b"BF07\n"],
-         "around 65,536 bytes": [b"BF01\n", b"BF02\n"], "a batch and more up to 65,536": [b"BF08\n"]}
+         "around 65,536 bytes": [b"BF01\n", b"BF02\n"], "a batch and more up to 65,536": [b"BF08\n"],
+         "windows behind the batch": [b"B00102000900000001\nB1000005\nB1010008\n"], "no further line": [b"BF01\n", b"BF02\n"],
+         "further lines up to 65,536": [b"BF01\n", b"BF14\n"]}
 
 
 # ---- PLAN and its pipe
@@ -138,6 +140,13 @@ def small_files(rng, calls):
     return [data for _, data in ending_soon(calls, [("", data) for data in made])]
 
 
+def windowed_files(rng, calls):
+    """Files of edition 02 that open, and whose search ends soon."""
+    made = [joined(lines(*some_windowed(rng, most))) for most in (3, 3, 5, 5, 9, 9, 24, 24) for _ in range(3)]
+    soon = [data for _, data in ending_soon(calls, [("", data) for data in made])]
+    return [data for data in soon if not output([calls[0], "plan"], data).startswith(b"BF")][:8]
+
+
 def one_cut(rng, files):
     """Each file cut at places of every kind."""
     for data in files:
@@ -168,6 +177,21 @@ def other_ends(rng, files):
     yield "nothing", []  # the end comes at once
 
 
+def further(files):
+    """Edition 02: windows that come when the batch is whole, their lines cut everywhere, and lines that are none."""
+    head, windows = joined(SMALL_02), joined(["A30000050005", "A30100080009"])
+    yield "windows behind the batch", [head, windows]
+    yield "windows behind the batch", cut(head + windows, range(len(head), len(head + windows)))
+    for place in range(len(head) + 1, len(head + windows)):
+        yield "windows behind the batch", cut(head + windows, [place])
+    for data in [head, head + windows] + files:
+        for tail in (b"\n", b"0", b"G", b"\x00", b"A4000001\n", b"A200010001\n", b"A3", b"A3\n"):
+            yield "no further line", [data, tail]
+    for length in (CUT - 1, CUT, CUT + 1, 3 * CUT):
+        for tail in (b"\n", b"A30000050005\n"):
+            yield "further lines up to 65,536", cut((head + windows + tail * length)[:length], [len(head + windows), CUT - 1, CUT])
+
+
 def long_line(head, length, tail=b""):
     """Some lines and one that is too long: `length` bytes up to its 0A."""
     return head + b"0" * (length - len(head) - 1) + b"\n" + tail
@@ -177,7 +201,8 @@ def at_the_cut():
     """Input around the cut at 65,536 bytes: small batches whose next line is too long. It has an even number of digits:
     with its 0A among the bytes that are taken it is refused by 2, else by 1. After a whole batch the number is 8."""
     texts = ["A0010100", "A0010200 A1010001", "A0010201 A1010001 A1010002", "A0010301 A1010001 A1010002 A1010004",
-             "A0010202 A1010001 A1010002 A200010001", "A0010302 A1010001 A1010002 A1010004 A200010001"]
+             "A0010202 A1010001 A1010002 A200010001", "A0010302 A1010001 A1010002 A1010004 A200010001",
+             "A0020200 A1010001 A1010002", "A0020200 A1010001 A1010002 A30000000005"]
     heads = [joined(text.split()) for text in texts]
     cuts = [[CUT - 1], [CUT], [CUT + 1], [CUT - 1, CUT], [CUT, CUT + 1], [CUT - 1, CUT, CUT + 1],
             [20, CUT - 1, CUT + 100], [CUT // 2, CUT, CUT + 200], [9, 100, CUT - 1, CUT + 1]]
@@ -201,8 +226,9 @@ def large_pieces():
             yield cut(long_line(head, length), [CUT - 1]), None
 
 
-def all_cases(rng, files):
-    for made in (one_cut(rng, files), more_cuts(rng, files), other_ends(rng, files), at_the_cut()):
+def all_cases(rng, files, others):
+    for made in (one_cut(rng, files + others), more_cuts(rng, files), more_cuts(rng, others), other_ends(rng, files), at_the_cut(),
+                 further(others)):
         for kind, pieces in made:
             yield Case(kind, pieces, None)
     for pieces, capacity in large_pieces():
@@ -238,7 +264,7 @@ def compare_inputs(tally, plan, own, files):
     with open(os.devnull, "rb") as file:
         got = Run([plan], file).answer()
     tally.note("nothing", due == got, os.devnull, due, got)
-    for data in [b""] + files[:6] + [long_line(SMALL, CUT + k) for k in (-1, 0, 1, 2)]:
+    for data in [b""] + files[:6] + files[-3:] + [long_line(SMALL, CUT + k) for k in (-1, 0, 1, 2)]:
         with tempfile.TemporaryFile() as file:
             file.write(data)
             file.seek(0)
@@ -273,8 +299,9 @@ def main():
     plan, own, counts = words_of("pieces.py PLAN INDEPENDENT COUNTS")
     rng, tally = random.Random(2), Tally()
     files = small_files(rng, [own, "calls"])
-    compare_pieces(tally, plan, own, all_cases(rng, files))
-    compare_inputs(tally, plan, own, files)
+    others = windowed_files(random.Random(9), [own, "calls"])
+    compare_pieces(tally, plan, own, all_cases(rng, files, others))
+    compare_inputs(tally, plan, own, files + others)
     compare_unreadable(tally, plan)
     compare_arguments(tally, plan)
     tally.show()

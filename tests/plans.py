@@ -3,12 +3,13 @@ from collections import Counter
 
 
 def read_file(data):
-    """Jobs and delays of a batch file, read here once more from its bytes."""
+    """Jobs, delays and windows of a batch file, read here once more from its bytes; windows are None in edition 01."""
     frames = [bytes.fromhex(line) for line in data.decode().splitlines()]
-    n = frames[0][2]
+    edition, n, m = frames[0][1:]
     jobs = [[int.from_bytes(f[k:k + 2], "big") for k in range(2, len(f), 2)] for f in frames[1:1 + n]]
-    delays = [(f[1], f[2], int.from_bytes(f[3:5], "big", signed=True)) for f in frames[1 + n:]]
-    return jobs, delays
+    delays = [(f[1], f[2], int.from_bytes(f[3:5], "big", signed=True)) for f in frames[1 + n:1 + n + m]]
+    windows = {f[1]: (int.from_bytes(f[2:4], "big"), int.from_bytes(f[4:6], "big")) for f in frames[1 + n + m:]}
+    return jobs, delays, windows if edition == 2 else None
 
 
 def latency_of(jobs, starts):
@@ -22,9 +23,11 @@ def outlasted(jobs, starts, latency):
     return any(start + len(masks) > latency for start, masks in zip(starts, jobs))
 
 
-def faults(jobs, delays, starts, latency):
-    """What is wrong with a plan: delays, stations tick by tick, latency."""
+def faults(jobs, delays, windows, starts, latency):
+    """What is wrong with a plan: delays, ends, stations tick by tick, latency."""
     found = ["delay %d %d %d" % d for d in delays if starts[d[1]] - starts[d[0]] < d[2]]
+    found += ["end of job %d" % job for job, (earliest, latest) in (windows or {}).items()
+              if not earliest <= starts[job] <= latest]
     held = Counter((starts[i] + a, s) for i, masks in enumerate(jobs)
                    for a, mask in enumerate(masks) for s in range(16) if mask >> s & 1)
     found += ["tick %d station %d" % key for key, times in held.items() if times > 1]

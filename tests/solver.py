@@ -6,14 +6,18 @@ import re
 import sys
 from collections import Counter
 
-from batches import apart, batch, clash_count, joined, lines, output, stay, words_of
+from batches import apart, batch, clash_count, joined, lines, output, stay, windowed, words_of
 from plans import faults, outlasted, read_file
 
 BATCHES = 420
 IDLE = 40  # batches whose jobs hold nothing, and as many in which some do
 MOST_CLASHES = 40
+WINDOWED = 600  # batches of edition 02, each beside itself without its windows
+MOST_WINDOWED = 24  # clashes of such a batch
 # What a plan's latency can show of empty ticks, and in how many plans it must at least.
 FEWEST = {"below a start plus all ticks": 80, "a start of a job that holds nothing, past all that others hold": 15, "0": 10}
+# What windows can change in the answer to a batch, and in how many batches they must at least.
+DECIDED = {"another latency": 120, "other starts, the same latency": 20, "no plan": 30, "refused by 10": 25, "nothing": 100}
 
 
 def made_batches(rng):
@@ -34,6 +38,17 @@ def made_batches(rng):
         yield jobs, delays + [(held, idle, rng.randint(3, 20))]
 
 
+def windowed_batches(rng):
+    """Batches of edition 02, each followed by itself without its windows."""
+    for number in range(WINDOWED):
+        n = 1 + number % 9
+        made = batch(rng, n, rng.choice([2, 4, 6, 16]))
+        while not (n > 3) * n <= clash_count(made[0]) <= MOST_WINDOWED:
+            made = batch(rng, n, rng.choice([2, 4, 6, 16]))
+        yield windowed(rng, made)
+        yield made
+
+
 def read_answer(text, n):
     """(kind, starts, latency, total) of PLAN's output; kind is wrong if it keeps no form of 01."""
     if not re.fullmatch("(([0-9A-F]{2})+\n)+", text):
@@ -51,12 +66,14 @@ def read_answer(text, n):
     return "wrong", None, None, 0
 
 
-def question(jobs, delays, stations, latency):
-    """Asks for starts that meet the delays, with or without stations, up to a latency or none."""
+def question(jobs, delays, windows, stations, latency):
+    """Asks for starts that meet the delays and the ends, with or without stations, up to a latency or none."""
     n = len(jobs)
     says = ["(>= (- t%d z) 0)" % i for i in range(n)]
     says += ["(>= (- t%d t%d) (- %d))" % (j, i, -w) if w < 0 else "(>= (- t%d t%d) %d)" % (j, i, w)
              for i, j, w in delays]
+    for job, (earliest, latest) in (windows or {}).items():
+        says += ["(>= (- t%d z) %d)" % (job, earliest), "(<= (- t%d z) %d)" % (job, latest)]
     if stations:
         says += ["(not (= (- t%d t%d) %s))" % (j, i, d if d >= 0 else "(- %d)" % -d)
                  for j in range(n) for i in range(j) for d in sorted(apart(jobs[i], jobs[j]))]
@@ -80,28 +97,44 @@ def shown(jobs, starts, latency):
         yield "0"
 
 
+def decided(windowed, plain):
+    """What windows change: of (kind, starts, latency) with them and without."""
+    if windowed[0] != plain[0]:
+        return windowed[0]
+    if windowed[2] != plain[2]:
+        return "another latency"
+    return "nothing" if windowed[1] == plain[1] else "other starts, the same latency"
+
+
+def check_windows(answered):
+    """How often windows change what in the answers, which come in twos: with windows, and without."""
+    changes = Counter(decided(with_them, without) for with_them, without in zip(answered[::2], answered[1::2]))
+    print("  windows change: " + ", ".join("%s in %d" % (what, changes[what]) for what in DECIDED))
+    return all(changes[what] >= least for what, least in DECIDED.items())
+
+
 def main():
     plan, counts = words_of("solver.py PLAN COUNTS")
-    rng = random.Random(20240)
-    cases, questions, seen = [], [], Counter()
-    for made in made_batches(rng):
+    cases, questions, seen, answered = [], [], Counter(), []
+    for made in list(made_batches(random.Random(20240))) + list(windowed_batches(random.Random(20241))):
         data = joined(lines(*made))
-        jobs, delays = read_file(data)
+        jobs, delays, windows = read_file(data)
         out = output([plan], data).decode("latin-1")
         kind, starts, latency, total = read_answer(out, len(jobs))
+        answered.append((kind, starts, latency))
         found = ["form"] if kind == "wrong" else []
         if not 1 <= total < 2 ** (clash_count(jobs) + 1):
             found.append("total")
         asked = []  # questions to z3 with the answers that are due
         if kind == "plan":
-            found += faults(jobs, delays, starts, latency)
+            found += faults(jobs, delays, windows, starts, latency)
             seen.update(shown(jobs, starts, latency))
             asked = [(True, latency - 1, "unsat"), (True, latency, "sat")]
         elif kind == "no plan":
             asked = [(True, None, "unsat"), (False, None, "sat")]
         elif kind == "refused by 10":
             asked = [(False, None, "unsat")]
-        questions += [question(jobs, delays, stations, most) for stations, most, _ in asked]
+        questions += [question(jobs, delays, windows, stations, most) for stations, most, _ in asked]
         cases.append((kind, data, out, found, [due for _, _, due in asked]))
     answers = output(["z3", "-in"], "\n".join(questions).encode(), 600).decode().split()
     right, wrong, kinds = 0, 0, Counter()
@@ -121,7 +154,8 @@ def main():
     print("  batches: " + ", ".join("%d %s" % (kinds[k], k) for k in sorted(kinds)))
     print("  latencies: " + ", ".join("%d %s" % (seen[k], k) for k in FEWEST))
     print("  z3: %d questions, %d unsat, %d sat" % (len(questions), answers.count("unsat"), answers.count("sat")))
-    if right + wrong < 300 or not all(kinds[k] for k in ("plan", "no plan", "refused by 10")) \
+    enough = check_windows(answered[-2 * WINDOWED:])
+    if right + wrong < 300 or not enough or not all(kinds[k] for k in ("plan", "no plan", "refused by 10")) \
             or any(seen[k] < least for k, least in FEWEST.items()):
         print("  wrong: too few batches compared, or a kind is missing")
         wrong += 1

@@ -17,7 +17,7 @@ class Tally:
 
     def show(self):
         for kind in sorted(self.right):
-            print("  %-32s %5d same, %d other" % (kind, self.right[kind], self.wrong[kind]))
+            print("  %-36s %5d same, %d other" % (kind, self.right[kind], self.wrong[kind]))
 
     def write(self, counts):
         """The numbers of right and wrong cases, into the file that the command line names for them."""

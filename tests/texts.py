@@ -4,7 +4,7 @@ own with another file, and cases by name.
 A case is (kind, file, text, due). due is the number that the documents or the check of plans.py give, 0 where the text
 passes, and None where the independent program alone says it. PLAN's texts come as (file, text)."""
 from batches import joined, lines, stay
-from files import DAMAGES, damaged
+from files import DAMAGES, DAMAGES_02, damaged
 from plans import faults, latency_of, plan_text, read_file, starts_of
 
 MOST = 65535  # of a start and of a latency
@@ -56,8 +56,9 @@ def changed(rng, printed):
 
 # ---- other starts
 
-def some_starts(rng, jobs, starts):
-    """Starts near those of a valid plan, and the same plan later, up to the last starts that a text can have."""
+def some_starts(rng, jobs, windows, starts):
+    """Starts near those of a valid plan, and the same plan later, up to the last starts that a text can have; a job with a
+    window at its ends and past them."""
     room, latency = MOST - max(starts), latency_of(jobs, starts)
     yield starts
     for _ in range(3):
@@ -69,6 +70,11 @@ def some_starts(rng, jobs, starts):
     near = [starts[job] + 1, max(0, starts[job] - 1), starts[job] + 20]
     for start in near + [rng.randint(0, MOST), MOST - stay(jobs[job]), min(MOST, MOST - stay(jobs[job]) + 1)]:
         yield starts[:job] + [start] + starts[job + 1:]
+    for job, (earliest, latest) in (windows or {}).items():
+        for start in {earliest, max(0, earliest - 1), latest, min(MOST, latest + 1)}:
+            yield starts[:job] + [start] + starts[job + 1:]
+        yield [min(MOST, start + latest - starts[job]) for start in starts]  # the whole plan, as late as this job may be
+        yield [min(MOST, start + latest - starts[job] + 1) for start in starts]
 
 
 def starts_kind(found, longer):
@@ -82,13 +88,13 @@ def starts_kind(found, longer):
 def other_starts(rng, printed):
     """Plans of other starts, as the check by delays, ticks and stations judges them."""
     for data, text in printed:
-        jobs, delays = read_file(data)
+        jobs, delays, windows = read_file(data)
         shortest = latency_of(jobs, starts_of(text))
-        for starts in some_starts(rng, jobs, starts_of(text)):
+        for starts in some_starts(rng, jobs, windows, starts_of(text)):
             right = latency_of(jobs, starts)
             off = [max(0, right + rng.choice([1, -1, 256, -256]))] if rng.random() < 0.4 else []
             for latency in [right] + off:
-                found = faults(jobs, delays, starts, latency & MOST)  # as two bytes have it
+                found = faults(jobs, delays, windows, starts, latency & MOST)  # as two bytes have it
                 kind = "starts: latency past 65,535" if right > MOST else starts_kind(found, right > shortest)
                 yield kind, data, plan_text(starts, latency, rng.choice(TOTALS)), 19 if found else 0
 
@@ -102,9 +108,9 @@ def other_totals(rng, printed):
 def other_files(rng, printed):
     """PLAN's texts with a damaged file, and with the files of other batches, one of them with as many jobs."""
     for data, text in printed:
-        jobs, delays = read_file(data)
-        for kind in rng.sample(DAMAGES, 12):
-            yield "file damaged", damaged(rng, kind, jobs, delays), text, None
+        jobs, delays, windows = read_file(data)
+        for kind in rng.sample(DAMAGES if windows is None else DAMAGES_02, 12):
+            yield "file damaged", damaged(rng, kind, jobs, delays, windows), text, None
         alike = [other for other, _ in printed if other[4:6] == data[4:6] and other != data]
         for other in [rng.choice(printed)[0]] + rng.sample(alike, min(2, len(alike))):
             yield "file of another batch", other, text, None
@@ -137,7 +143,11 @@ FREE = lined("A0010200 A1010001 A1010002")  # two jobs that share nothing
 MANY = joined(lines([[1 << k % 16] for k in range(24)], []))  # 24 jobs, the last eight on the first eight's stations
 MANY_STARTS = [k // 16 for k in range(24)]
 MANY_PLAN = plan_text(MANY_STARTS, 2, 24)
-REFUSED = [lined("A0010"), lined("A0010100 A10100"), lined("A0020100 A1010001"), lined("A0010000"),
+C3_WINDOWS = lined("A0020200 A1010001 A103000100020002 A300000103E8 A3010000FFFF")  # job 0 from tick 1 on, at the latest at 1,000
+TO_THE_LAST = lined("A0020100 A1010000 A3004E20FFFF")  # one job that holds nothing, from 20,000 on
+AT_ONCE = lined("A0020201 A1010001 A1010002 A20001FFFB A300000A000A A301000AFFFF")  # job 0 at 10, job 1 from then on
+NO_LINES = lined("A0020100 A1010001")  # edition 02, no further line
+REFUSED = [lined("A0010"), lined("A0010100 A10100"), lined("A0030100 A1010001"), lined("A0010000"),
            lined("A0010201 A1010001 A1010002 A200000001"), lined("A0010201 A1010001 A1010002 A2000103E9"), b"",
            C2 + b"\n", joined(lines([[1] * 16] * 9, [])), lined("A0010202 A1010001 A1010002 A200010001 A201000000")]
 
@@ -171,6 +181,13 @@ def passing():
     yield "later ticks one after the other", LATER, lined("B00102000300000001 B1000000 B1010001")
     yield "station 15, one after the other", LAST, lined("B00102000200000001 B1000000 B1010001")
     yield "the first job ends last", FREE, lined("B00102000600000001 B1000005 B1010000")
+    yield "edition 02 without further lines: the plan text has 01 all the same", NO_LINES, C2_PLAN
+    yield "a start at its earliest", C3_WINDOWS, C3_PLAN
+    yield "a start at its latest", C3_WINDOWS, lined("B0010203E900000000 B10003E8 B1010000")
+    yield "a latest of FFFF", TO_THE_LAST, lined("B00101FFFF00000000 B100FFFF")
+    yield "an earliest of 20,000", TO_THE_LAST, lined("B001014E2000000001 B1004E20")
+    yield "a start that can be in one tick alone", AT_ONCE, lined("B00102000B00000000 B100000A B101000A")
+    yield "a job without a latest, at FFFE", AT_ONCE, lined("B00102FFFF00000000 B100000A B101FFFE")
 
 
 def out_of_form():
@@ -278,6 +295,15 @@ def not_valid():
     yield "16 ticks from FFF0, latency 0000", SIXTEEN, lined("B00101000000000001 B100FFF0")
     yield "32,769 ticks before the other", APART, lined("B00102800200000001 B1008001 B1010000")
     yield "60,000 ticks before the other", APART, lined("B00102EA6100000001 B100EA60 B1010000")
+    yield "a start before its earliest", C3_WINDOWS, lined("B00102000400000000 B1000000 B1010001")
+    yield "a start past its latest", C3_WINDOWS, lined("B0010203EA00000000 B10003E9 B1010000")
+    yield "a start of FFFF past its latest", C3_WINDOWS, lined("B00102000000000000 B100FFFF B1010000")
+    yield "one tick before 20,000", TO_THE_LAST, lined("B001014E1F00000001 B1004E1F")
+    yield "the job of one tick alone a tick later", AT_ONCE, lined("B00102000C00000000 B100000B B101000B")
+    yield "the job of one tick alone a tick earlier", AT_ONCE, lined("B00102000B00000000 B1000009 B101000A")
+    yield "the other job before its earliest, as the delay allows", AT_ONCE, lined("B00102000B00000000 B100000A B1010009")
+    yield "within the ends, wrong latency", AT_ONCE, lined("B00102000C00000000 B100000A B101000A")
+    yield "within the ends, a station twice", C3_WINDOWS, lined("B00102000400000000 B1000001 B1010001")
 
 
 def several():
@@ -295,10 +321,19 @@ def several():
     yield "18 before 19, lines swapped and a station twice", C3, lined("B00102000300000003 B1010000 B1000000"), 18
     yield "18 before 19, a line too many and latency", C3, lined("B00102000900000003 B1000001 B1010000 B1020000"), 18
     yield "18 before 19, a line missing and a delay", C7, lined("B00102000100000001 B1000000"), 18
+    yield "18 before 19, a line missing and a start past its latest", C3_WINDOWS, lined("B0010203EA00000000 B10003E9"), 18
+    yield "17 before 19, no 0A and a start past its latest", C3_WINDOWS, lined("B0010203EA00000000 B10003E9 B1010000")[:-1], 17
+    yield "17, the edition of the batch in the plan text", NO_LINES, C2_PLAN.replace(b"B001", b"B002", 1), 17
     for number, data in enumerate(REFUSED, 1):
         for name, text in (("C2's plan", C2_PLAN), ("C3's plan", C3_PLAN), ("an empty text", b""),
                            ("a B2 text", NO_PLAN), ("no job line", NO_JOB), ("the same bytes", data)):
             yield "a file refused by %d and %s" % (number, name), data, text, number
+    for name, line, number in (("job 1 of one", "A30100000001", 20), ("earliest above latest", "A30000020001", 20), ("a short line", "A300", 2),
+                               ("a later kind", "A40001", 2), ("an empty line", "", 1), ("a line in edition 01", "A30000000001", 8)):
+        for text in (C2_PLAN, b"", NO_PLAN):
+            head = C2 if number == 8 else NO_LINES
+            yield "a file with %s, and %d bytes" % (name, len(text)), head + line.encode() + b"\n", text, number
+    yield "ends that cannot be met, and a plan", lined("A0020201 A1010001 A1010002 A200010005 A30100000004"), C3_PLAN, 10
     yield "file and text exchanged", C3_PLAN, C3, 2
 
 

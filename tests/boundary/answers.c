@@ -7,26 +7,15 @@ static void opened(const char *text, room *memory) {
     same(open_text(text, &memory->record), 0);
 }
 
-/* Field by field, the padding of the jobs apart. */
-static void same_batch(const planner_batch *got, const planner_batch *due) {
-    int k;
-    same(got->n, due->n);
-    same(got->m, due->m);
-    for (k = 0; k < PLANNER_JOBS; k++) {
-        same(got->jobs[k].ticks, due->jobs[k].ticks);
-        same_bytes(got->jobs[k].masks, due->jobs[k].masks, sizeof due->jobs[k].masks);
-    }
-    same_bytes(got->delays, due->delays, sizeof due->delays);
-}
-
 /* One run with `count` starts out of four, filled with A5 before. The batch and all around the record stay. */
 static planner_answer run_starts(room *memory, uint32_t budget, uint16_t starts[4], size_t count) {
-    planner_batch before = memory->record.batch;
+    planner_batch before;
     planner_answer answer;
+    memcpy(&before, &memory->record.batch, sizeof before);
     memset(starts, 0xA5, 4 * sizeof starts[0]);
     answer = planner_run(&memory->record, budget, starts, count);
     same_edges(memory, 0xA5);
-    same_batch(&memory->record.batch, &before);
+    same_bytes(&memory->record.batch, &before, sizeof before);
     return answer;
 }
 
@@ -161,6 +150,46 @@ static void check_zero(void) {
     same_answer(run_starts(&memory, 2, starts, 2), PLANNER_PLAN, 0, 3, 3);
 }
 
+/* examples/wedding-windows.batch: jobs 0, 1 and 3 have windows, and without any one of them the starts are others. */
+static void check_windows(void) {
+    room memory;
+    planner_record *record = &memory.record;
+    uint16_t starts[4];
+    int k;
+    begin("the wedding example of edition 02: starts 1, 4, 0, 3 with latency 7 after 11 nodes, as budgets share them out");
+    opened(WINDOWS, &memory);
+    same(record->batch.edition, 2);
+    for (k = 1; k < 11; k++)
+        same_answer(run_starts(&memory, 1, starts, 4), PLANNER_SPENT, 0, 0, k);
+    same_answer(run_starts(&memory, 1, starts, 4), PLANNER_PLAN, 0, 7, 11);
+    same_starts(starts, 1, 4, 0, 3);
+    same(record->latency, 7);
+    same(record->starts[1], 4);
+    opened(WINDOWS, &memory);
+    same_answer(run_starts(&memory, PLANNER_BUDGET, starts, 4), PLANNER_PLAN, 0, 7, 11);
+    same_starts(starts, 1, 4, 0, 3);
+    begin("the same in edition 01, without its windows: starts 0, 2, 2, 4 with latency 6 after 21 nodes");
+    opened(WINDOWS, &memory);
+    record->batch.edition = 1;
+    for (k = 0; k < 4; k++) {
+        record->batch.windows[k].lined = 0;
+        record->batch.windows[k].earliest = 0;
+        record->batch.windows[k].latest = 65535;
+    }
+    same_answer(run_starts(&memory, PLANNER_BUDGET, starts, 4), PLANNER_PLAN, 0, 6, 21);
+    same_starts(starts, 0, 2, 2, 4);
+    begin("no plan because of two windows: examples/too-late.batch");
+    opened("A0020200\nA10200010001\nA1010001\nA30000000000\nA30100000001\n", &memory);
+    same_answer(run_starts(&memory, 4, starts, 2), PLANNER_SPENT, 0, 0, 4);
+    same_answer(run_starts(&memory, 1, starts, 2), PLANNER_NO_PLAN, 0, 0, 5);
+    same_starts(starts, 0xA5A5, 0xA5A5, 0xA5A5, 0xA5A5);
+    begin("what stands in places that do not count is left");
+    opened(C3, &memory);
+    memset(&record->batch.windows[2], 0xA5, 22 * sizeof record->batch.windows[2]);
+    memset(&record->batch.jobs[2], 0xA5, 22 * sizeof record->batch.jobs[2]);
+    same_answer(run_starts(&memory, 3, starts, 2), PLANNER_PLAN, 0, 3, 3);
+}
+
 void check_answers(void) {
     check_c3();
     check_c5();
@@ -168,4 +197,5 @@ void check_answers(void) {
     check_large();
     check_c8();
     check_zero();
+    check_windows();
 }

@@ -10,6 +10,9 @@ const char *const C8 = "A0010100\nA10200010000\n";
 const char *const C8_PLAN = "B00101000100000001\nB1000000\n";
 const char *const IDLE = "A0010300\nA1010000\nA10200000000\nA1010000\n";
 const char *const IDLE_PLAN = "B00103000000000001\nB1000000\nB1010000\nB1020000\n";
+const char *const WINDOWS = "A0020402\nA103000200020010\nA103000200020008\nA10200040010\nA10200020010\nA202030001\nA20302FFFD\n"
+                            "A3000001FFFF\nA3010003FFFF\nA30300000003\n";
+const char *const WINDOWS_PLAN = "B0010400070000000B\nB1000001\nB1010004\nB1020000\nB1030003\n";
 
 static const char *present;
 static long compared, unlike, passed, failed;
@@ -67,7 +70,7 @@ int counted(void) {
 size_t file_of(const plain *batch, uint8_t *file) {
     char *out = (char *)file;
     int i, a;
-    out += sprintf(out, "A001%02X%02X\n", batch->n, batch->m);
+    out += sprintf(out, "A0%02X%02X%02X\n", batch->edition, batch->n, batch->m);
     for (i = 0; i < batch->n && i < 24; i++) {
         out += sprintf(out, "A1%02X", batch->ticks[i]);
         for (a = 0; a < batch->ticks[i] && a < 16; a++)
@@ -76,6 +79,9 @@ size_t file_of(const plain *batch, uint8_t *file) {
     }
     for (i = 0; i < batch->m && i < 128; i++)
         out += sprintf(out, "A2%02X%02X%04X\n", batch->from[i], batch->to[i], batch->weight[i] & 0xFFFF);
+    for (i = 0; i < 24; i++)
+        if (batch->lined[i])
+            out += sprintf(out, "A3%02X%04X%04X\n", i, batch->earliest[i], batch->latest[i]);
     return (size_t)(out - (char *)file);
 }
 
@@ -85,11 +91,21 @@ plain idle(int n, int p, int m) {
     memset(&batch, 0, sizeof batch);
     batch.n = n;
     batch.m = m;
+    batch.edition = 1;
     for (k = 0; k < 24 && k < n; k++)
         batch.ticks[k] = p;
+    for (k = 0; k < 24; k++)
+        batch.latest[k] = 65535;
     for (k = 0; k < 128 && k < m; k++)
         batch.to[k] = 1;
     return batch;
+}
+
+void give_window(plain *batch, int job, int earliest, int latest) {
+    batch->edition = 2;
+    batch->lined[job] = 1;
+    batch->earliest[job] = earliest;
+    batch->latest[job] = latest;
 }
 
 void fill(room *memory, int byte) {

@@ -17,9 +17,10 @@ int counted(void);
 
 /* A batch in plain numbers, apart from the header's structs. */
 typedef struct plain {
-    int n, m;
+    int n, m, edition;
     int ticks[24], masks[24][16];
     int from[128], to[128], weight[128];
+    int lined[24], earliest[24], latest[24];
 } plain;
 
 /* Room for a file of any batch here, limits passed by one included. */
@@ -28,8 +29,11 @@ typedef struct plain {
 /* Writes the batch file by the format's text; its length. */
 size_t file_of(const plain *batch, uint8_t *file);
 
-/* A batch of n jobs of p ticks that hold nothing, and m delays of weight 0 that close no ring. */
+/* A batch of edition 01: n jobs of p ticks that hold nothing, and m delays of weight 0 that close no ring. */
 plain idle(int n, int p, int m);
+
+/* Gives a job of a batch a window, and the batch edition 02. */
+void give_window(plain *batch, int job, int earliest, int latest);
 
 /* A record with 64 bytes of canary before and after. */
 #define EDGE 64
@@ -57,7 +61,7 @@ void same_answer(planner_answer got, int kind, int refusal, long latency, long t
 
 /* The document's batch C3, whose plan of latency 3 starts at 1 and 0 and takes 3 nodes, that plan as it is printed, and C5, which has no plan and
  * takes 3 nodes. Its C8, one job of a held tick and an empty one, with the plan of latency 1; and three jobs that hold nothing, with the plan of
- * latency 0. */
+ * latency 0. examples/wedding-windows.batch, of edition 02, with its plan, which takes 11 nodes. */
 extern const char *const C3;
 extern const char *const C3_PLAN;
 extern const char *const C5;
@@ -65,6 +69,8 @@ extern const char *const C8;
 extern const char *const C8_PLAN;
 extern const char *const IDLE;
 extern const char *const IDLE_PLAN;
+extern const char *const WINDOWS;
+extern const char *const WINDOWS_PLAN;
 
 /* The groups. */
 void check_version(void);

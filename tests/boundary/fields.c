@@ -75,8 +75,8 @@ static void check_best(void) {
     for (i = 0; i < PLANNER_JOBS; i++)
         same(starts[i], i * 911 + 257);
     same_fill(starts + PLANNER_JOBS, 0xA5, 2 * sizeof starts[0]);
-    record.found = 0x0100;
-    record.ended = 0x0100;
+    record.found = 0x80;
+    record.ended = 0x02;
     same_answer(run(&record, 7), PLANNER_PLAN, 0, 5003, 0x01020304);
     same(record.found, 1);
     same(record.ended, 1);
@@ -122,6 +122,8 @@ static void check_counts(void) {
         record.batch.jobs[i].ticks = 0;
         same_unsound(&record);
         record.batch.jobs[i].ticks = PLANNER_TICKS + 1;
+        same_unsound(&record);
+        record.batch.jobs[i].ticks = 0x0101;
         same_unsound(&record);
         record.batch.jobs[i].ticks = 1;
         same_sound(&record);
@@ -215,6 +217,114 @@ static void check_path(void) {
     same_unsound(&record);
 }
 
+static void check_edition(void) {
+    static const uint16_t others[5] = {0, 3, 0x0101, 0x0102, 0xFFFF};
+    planner_record record = searching();
+    int k;
+    begin("edition: 1 and 2 and no other, and a line in edition 2 alone");
+    same(record.batch.edition, 1);
+    for (k = 0; k < 5; k++) {
+        record.batch.edition = others[k];
+        same_unsound(&record);
+    }
+    record.batch.edition = 2;
+    same_sound(&record);
+    for (k = 0; k < PLANNER_JOBS; k++) {
+        record = searching();
+        record.batch.windows[k].lined = 1;
+        same_unsound(&record);
+        record.batch.edition = 2;
+        same_sound(&record);
+        record.batch.windows[k].lined = 0x0100;
+        same_sound(&record);
+        record.batch.edition = 1;
+        same_unsound(&record);
+    }
+}
+
+/* Sets a window by the header's names. */
+static void set_window(planner_record *record, int job, int lined, int earliest, int latest) {
+    record->batch.windows[job].lined = (uint16_t)lined;
+    record->batch.windows[job].earliest = (uint16_t)earliest;
+    record->batch.windows[job].latest = (uint16_t)latest;
+}
+
+static void check_windows(void) {
+    planner_record record;
+    int i;
+    begin("lined, earliest and latest of each of the 24 windows: their limits, with a line and without");
+    for (i = 0; i < PLANNER_JOBS; i++) {
+        record = searching();
+        record.batch.edition = 2;
+        set_window(&record, i, 0, 1, 65535);
+        same_unsound(&record);
+        set_window(&record, i, 0, 0, 65534);
+        same_unsound(&record);
+        set_window(&record, i, 0, 0, 65535);
+        same_sound(&record);
+        set_window(&record, i, 1, PLANNER_EARLIEST, 65535);
+        same_sound(&record);
+        set_window(&record, i, 1, PLANNER_EARLIEST + 1, 65535);
+        same_unsound(&record);
+        set_window(&record, i, 1, 65535, 65535);
+        same_unsound(&record);
+        set_window(&record, i, 1, PLANNER_EARLIEST, PLANNER_EARLIEST - 1);
+        same_unsound(&record);
+        set_window(&record, i, 0xFFFF, 1, 0);
+        same_unsound(&record);
+        set_window(&record, i, 0xFFFF, 0, 0);
+        same_sound(&record);
+        set_window(&record, i, 2, 7, 7);
+        same_sound(&record);
+    }
+    begin("delays and windows that cannot be met together");
+    record = searching();
+    record.batch.edition = 2;
+    record.batch.m = 1;
+    record.batch.delays[0].weight = 100;
+    set_window(&record, 0, 1, 30, 65535);
+    set_window(&record, 1, 1, 0, 130);
+    same_sound(&record);
+    set_window(&record, 1, 1, 0, 129);
+    same_unsound(&record);
+    set_window(&record, 0, 1, 29, 65535);
+    same_sound(&record);
+    record.batch.delays[0].weight = 101;
+    same_unsound(&record);
+    begin("windows past n do not count");
+    record = searching();
+    record.batch.n = 2;
+    for (i = 2; i < PLANNER_JOBS; i++) {
+        set_window(&record, i, i, 65535 - i, i);
+        same_sound(&record);
+    }
+    record.batch.n = 3;
+    same_unsound(&record);
+}
+
+/* The windows decide what a run comes to, and stand in the batch text. */
+static void check_ends(void) {
+    planner_record record;
+    uint8_t text[ROOM];
+    begin("a window set by the header's names: C3 with job 0 at tick 0 at the latest");
+    same(open_text(C3, &record), 0);
+    record.batch.edition = 2;
+    set_window(&record, 0, 1, 0, 0);
+    same_answer(run(&record, 3), PLANNER_PLAN, 0, 4, 3);
+    same(record.starts[0], 0);
+    same(record.starts[1], 1);
+    same((long)planner_write_batch(&record, text, sizeof text).length, (long)strlen(C3) + 13);
+    same_bytes(text, "A0020200\nA1010001\nA103000100020002\nA30000000000\n", strlen(C3) + 13);
+    begin("and with job 1 not before tick 5");
+    same(open_text(C3, &record), 0);
+    record.batch.edition = 2;
+    set_window(&record, 1, 0x8000, 5, 65535);
+    same_answer(run(&record, 3), PLANNER_PLAN, 0, 8, 1);
+    same(record.starts[0], 0);
+    same(record.starts[1], 5);
+    same(record.batch.windows[1].lined, 0x8000);
+}
+
 void check_fields(void) {
     check_total();
     check_best();
@@ -222,4 +332,7 @@ void check_fields(void) {
     check_delays();
     check_masks();
     check_path();
+    check_edition();
+    check_windows();
+    check_ends();
 }

@@ -48,6 +48,22 @@ static void check_passing(void) {
     same(judged(IDLE, "B00103FFFF00000001\nB1000000\nB101FFFF\nB1020000\n"), 0);
 }
 
+/* One job from tick 3 to tick 5; and examples/wedding-windows.batch, of whose windows each is missed once. */
+static void check_windows(void) {
+    static const char ONE[] = "A0020100\nA1010001\nA30000030005\n";
+    begin("windows: starts at both ends pass, those outside are 19");
+    same(judged(ONE, "B00101000400000000\nB1000003\n"), 0);
+    same(judged(ONE, "B00101000600000000\nB1000005\n"), 0);
+    same(judged(ONE, "B00101000300000000\nB1000002\n"), PLANNER_REFUSAL_INVALID);
+    same(judged(ONE, "B00101000700000000\nB1000006\n"), PLANNER_REFUSAL_INVALID);
+    same(judged(ONE, "B00101000000000000\nB100FFFF\n"), PLANNER_REFUSAL_INVALID);
+    same(judged(ONE, "B00201000400000000\nB1000003\n"), PLANNER_REFUSAL_FORM);
+    same(judged(WINDOWS, WINDOWS_PLAN), 0);
+    same(judged(WINDOWS, "B0010400070000000B\nB1000000\nB1010004\nB1020000\nB1030003\n"), PLANNER_REFUSAL_INVALID);
+    same(judged(WINDOWS, "B0010400060000000B\nB1000003\nB1010001\nB1020000\nB1030000\n"), PLANNER_REFUSAL_INVALID);
+    same(judged(WINDOWS, "B0010400080000000B\nB1000002\nB1010005\nB1020001\nB1030004\n"), PLANNER_REFUSAL_INVALID);
+}
+
 static void check_form(void) {
     begin("17: texts that are not one B0 line with 01 and then only B1 lines, each of its length");
     same(PLANNER_REFUSAL_FORM, 17);
@@ -112,10 +128,15 @@ static void check_files(void) {
     plain batch = idle(9, 16, 0);
     char crowd[ROOM];
     int i, a;
-    begin("1 to 10: the file's refusals, asked before the text's");
+    begin("1 to 10 and 20: the file's refusals, asked before the text's");
     refused_file("A0010\n", PLANNER_REFUSAL_LINE);
     refused_file("A0010100\nA10100\n", PLANNER_REFUSAL_FRAME);
-    refused_file("A0020100\nA1010001\n", PLANNER_REFUSAL_EDITION);
+    refused_file("A0030100\nA1010001\n", PLANNER_REFUSAL_EDITION);
+    refused_file("A0020100\nA1010001\nA30000020001\n", PLANNER_REFUSAL_WINDOW);
+    refused_file("A0020100\nA1010001\n\n", PLANNER_REFUSAL_LINE);
+    refused_file("A0020100\nA1010001\nA4000001\n", PLANNER_REFUSAL_FRAME);
+    refused_file("A0010100\nA1010001\nA30000000001\n", PLANNER_REFUSAL_EXTRA);
+    refused_file("A0020201\nA1010001\nA1010002\nA200010005\nA30100000004\n", PLANNER_REFUSAL_DELAYS);
     refused_file("A0010000\n", PLANNER_REFUSAL_COUNT);
     refused_file("A0010201\nA1010001\nA1010002\nA200000001\n", PLANNER_REFUSAL_JOB);
     refused_file("A0010201\nA1010001\nA1010002\nA2000103E9\n", PLANNER_REFUSAL_WEIGHT);
@@ -212,6 +233,7 @@ static void check_written(void) {
 
 void check_judge(void) {
     check_passing();
+    check_windows();
     check_form();
     check_jobs();
     check_invalid();

@@ -80,7 +80,48 @@ static void check_turns(void) {
     same(opening(&batch, &record), PLANNER_REFUSAL_CLASHES);
 }
 
-/* No start passes PLANNER_START, but a record that came from elsewhere may hold it. */
+static void check_earliest(void) {
+    planner_record record;
+    plain batch = idle(2, 1, 0);
+    begin("PLANNER_EARLIEST: 0 to 20,000, and not above the latest start");
+    give_window(&batch, 1, PLANNER_EARLIEST, 65535);
+    same(opening(&batch, &record), 0);
+    same(record.batch.windows[1].earliest, 20000);
+    give_window(&batch, 1, PLANNER_EARLIEST + 1, 65535);
+    same(opening(&batch, &record), PLANNER_REFUSAL_WINDOW);
+    give_window(&batch, 1, PLANNER_EARLIEST, PLANNER_EARLIEST);
+    same(opening(&batch, &record), 0);
+    give_window(&batch, 1, PLANNER_EARLIEST, PLANNER_EARLIEST - 1);
+    same(opening(&batch, &record), PLANNER_REFUSAL_WINDOW);
+    give_window(&batch, 1, 0, 0);
+    same(opening(&batch, &record), 0);
+}
+
+/* 24 jobs of 16 ticks, the last one held, each 1,000 ticks after the one before, the first not before tick 20,000. */
+static void check_latest_start(void) {
+    planner_record record;
+    plain batch = idle(24, 16, 23);
+    int k;
+    begin("PLANNER_START and PLANNER_LATENCY, reached by a search");
+    for (k = 0; k < 24; k++)
+        batch.masks[k][15] = 1;
+    for (k = 0; k < 23; k++) {
+        batch.from[k] = k;
+        batch.to[k] = k + 1;
+        batch.weight[k] = 1000;
+    }
+    give_window(&batch, 0, PLANNER_EARLIEST, 65535);
+    same(opening(&batch, &record), 0);
+    same_answer(run(&record, 1), PLANNER_PLAN, 0, PLANNER_LATENCY, 1);
+    same(record.starts[23], PLANNER_START);
+    give_window(&batch, 23, 0, PLANNER_START);
+    same(opening(&batch, &record), 0);
+    same_answer(run(&record, 1), PLANNER_PLAN, 0, PLANNER_LATENCY, 1);
+    give_window(&batch, 23, 0, PLANNER_START - 1);
+    same(opening(&batch, &record), PLANNER_REFUSAL_DELAYS);
+}
+
+/* No start passes PLANNER_START, but a record that came from elsewhere may hold it, in both editions. */
 static void check_best(void) {
     planner_record record;
     begin("PLANNER_START and PLANNER_LATENCY");
@@ -88,7 +129,9 @@ static void check_best(void) {
     record.ended = record.found = 1;
     record.starts[0] = PLANNER_START;
     record.latency = PLANNER_LATENCY;
-    same_answer(run(&record, 0), PLANNER_PLAN, 0, 23016, 0);
+    same_answer(run(&record, 0), PLANNER_PLAN, 0, 43016, 0);
+    record.batch.edition = 2;
+    same_answer(run(&record, 0), PLANNER_PLAN, 0, 43016, 0);
     record.starts[0] = PLANNER_START + 1;
     same_answer(run(&record, 0), PLANNER_REFUSED, PLANNER_REFUSAL_RECORD, 0, 0);
     record.starts[0] = PLANNER_START;
@@ -135,6 +178,8 @@ void check_limits(void) {
     check_counts();
     check_weights();
     check_turns();
+    check_earliest();
+    check_latest_start();
     check_best();
     check_nodes();
     check_empty();

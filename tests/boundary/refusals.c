@@ -1,4 +1,4 @@
-/* Each refusal 1 to 16 provoked once and compared with its name, and what a refused call leaves. judge.c has 17 to 19. */
+/* Each refusal 1 to 16 and 20 provoked and compared with its name, and what a refused call leaves. judge.c has 17 to 19. */
 #include "check.h"
 #include <string.h>
 
@@ -14,13 +14,43 @@ static void refused_file(const char *name, const char *text, int refusal, int nu
 static void check_opening(void) {
     refused_file("1: an odd count of digits", "A0010\n", PLANNER_REFUSAL_LINE, 1);
     refused_file("2: a job line too short for its ticks", "A0010100\nA10100\n", PLANNER_REFUSAL_FRAME, 2);
-    refused_file("3: edition 02", "A0020100\nA1010001\n", PLANNER_REFUSAL_EDITION, 3);
+    refused_file("3: edition 03", "A0030100\nA1010001\n", PLANNER_REFUSAL_EDITION, 3);
+    refused_file("3: edition 00", "A0000100\nA1010001\n", PLANNER_REFUSAL_EDITION, 3);
     refused_file("4: no jobs", "A0010000\n", PLANNER_REFUSAL_COUNT, 4);
     refused_file("5: a delay from a job to itself", "A0010201\nA1010001\nA1010002\nA200000001\n", PLANNER_REFUSAL_JOB, 5);
     refused_file("6: weight 1,001", "A0010201\nA1010001\nA1010002\nA2000103E9\n", PLANNER_REFUSAL_WEIGHT, 6);
     refused_file("7: an empty file", "", PLANNER_REFUSAL_MISSING, 7);
     refused_file("8: 0A after the last frame", "A0010100\nA1010001\n\n", PLANNER_REFUSAL_EXTRA, 8);
     refused_file("10: C6", "A0010202\nA1010001\nA1010002\nA200010001\nA201000000\n", PLANNER_REFUSAL_DELAYS, 10);
+}
+
+/* After the lines of two jobs, without delays. */
+static void refused_further(const char *name, const char *lines, int refusal, int number) {
+    char text[ROOM] = "A0020200\nA1010001\nA1010002\n";
+    strcat(text, lines);
+    refused_file(name, text, refusal, number);
+}
+
+static void check_further(void) {
+    refused_further("1: an empty further line", "\n", PLANNER_REFUSAL_LINE, 1);
+    refused_further("1: a further line without 0A", "A30000000001", PLANNER_REFUSAL_LINE, 1);
+    refused_further("1: a further line in lower case", "a30000000001\n", PLANNER_REFUSAL_LINE, 1);
+    refused_further("2: kind A4, which is not known", "A4000001\n", PLANNER_REFUSAL_FRAME, 2);
+    refused_further("2: kind FF, which is not known", "FF0000000001\n", PLANNER_REFUSAL_FRAME, 2);
+    refused_further("2: a delay after the last one", "A200010001\n", PLANNER_REFUSAL_FRAME, 2);
+    refused_further("2: a kind that falls", "A30000000001\nA200010001\n", PLANNER_REFUSAL_FRAME, 2);
+    refused_further("2: a window of 5 bytes", "A300000000\n", PLANNER_REFUSAL_FRAME, 2);
+    refused_further("2: a window of 7 bytes, of a job of n", "A3020000000100\n", PLANNER_REFUSAL_FRAME, 2);
+    refused_further("20: a window of a job of n", "A30200000001\n", PLANNER_REFUSAL_WINDOW, 20);
+    refused_further("20: a window of job 255", "A3FF00000001\n", PLANNER_REFUSAL_WINDOW, 20);
+    refused_further("20: two windows of one job", "A30000000001\nA30000000001\n", PLANNER_REFUSAL_WINDOW, 20);
+    refused_further("20: windows of jobs that fall", "A30100000001\nA30000000001\n", PLANNER_REFUSAL_WINDOW, 20);
+    refused_further("20: earliest 20,001", "A3004E21FFFF\n", PLANNER_REFUSAL_WINDOW, 20);
+    refused_further("20: earliest above latest", "A30000020001\n", PLANNER_REFUSAL_WINDOW, 20);
+    refused_further("20 in one line before 1 in the next", "A30000020001\nG\n", PLANNER_REFUSAL_WINDOW, 20);
+    refused_file("8: a window in edition 01", "A0010100\nA1010001\nA30000000001\n", PLANNER_REFUSAL_EXTRA, 8);
+    refused_file("20 before 10", "A0020202\nA1010001\nA1010002\nA200010001\nA201000000\nA30000020001\n", PLANNER_REFUSAL_WINDOW, 20);
+    refused_file("10: a delay past a latest start", "A0020201\nA1010001\nA1010002\nA200010005\nA30100000004\n", PLANNER_REFUSAL_DELAYS, 10);
 }
 
 static void check_clashes(void) {
@@ -38,7 +68,7 @@ static void check_clashes(void) {
     same_fill(&record, 0xA5, sizeof record);
 }
 
-/* A refused run leaves every byte of the record and of the starts, padding included. */
+/* A refused run leaves every byte of the record and of the starts. */
 static void refused_run(const room *before, uint32_t budget, size_t count, int refusal, int number) {
     room after;
     uint16_t starts[2];
@@ -56,8 +86,10 @@ static void check_running(void) {
     fill(&memory, 0xA5);
     begin("11: budget 1,000,001, asked before 12, 13 and 14");
     same(open_text(C3, &memory.record), 0);
-    for (k = 0; k < PLANNER_JOBS; k++) /* the jobs' padding */
-        ((uint8_t *)&memory.record.batch.jobs[k])[1] = 0xA5;
+    for (k = 2; k < PLANNER_JOBS; k++) { /* places that do not count */
+        memory.record.batch.jobs[k].ticks = 0xA5A5;
+        memory.record.batch.windows[k].lined = 0xA5A5;
+    }
     refused_run(&memory, PLANNER_BUDGET + 1, 2, PLANNER_REFUSAL_BUDGET, 11);
     refused_run(&memory, 0xFFFFFFFF, 0, PLANNER_REFUSAL_BUDGET, 11);
     begin("13: one place too few in the starts, asked before 14");
@@ -110,6 +142,7 @@ static void check_writing(void) {
 
 void check_refusals(void) {
     check_opening();
+    check_further();
     check_clashes();
     check_running();
     check_writing();

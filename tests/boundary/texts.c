@@ -58,6 +58,26 @@ static void check_short(void) {
     same_string(planner_write_batch, &record, C5);
 }
 
+/* Edition 02 comes back byte for byte, with no line, with some, and with one that says nothing; its plan text has 01. */
+static void check_windows(void) {
+    static const char *const files[4] = {"A0020100\nA1010001\n", "A0020100\nA1010001\nA3000000FFFF\n", "A0020100\nA1010001\nA30000030004\n",
+                                         "A0020300\nA1010001\nA1010002\nA1010004\nA30100050009\nA3024E20FFFF\n"};
+    planner_record record;
+    int k;
+    begin("edition 02: both texts");
+    same(open_text(WINDOWS, &record), 0);
+    same_string(planner_write_batch, &record, WINDOWS);
+    same(run(&record, 11).kind, PLANNER_PLAN);
+    same_string(planner_write_plan, &record, WINDOWS_PLAN);
+    same_string(planner_write_batch, &record, WINDOWS);
+    for (k = 0; k < 4; k++) {
+        same(open_text(files[k], &record), 0);
+        same_string(planner_write_batch, &record, files[k]);
+        same(run(&record, 1).kind, PLANNER_PLAN);
+        same_string(planner_write_batch, &record, files[k]);
+    }
+}
+
 /* 24 jobs, each 978 to 1,000 ticks after the one before: a line of 19 bytes and 24 of 9. They hold nothing, so that the latency is the last
  * start, 22,747. */
 static void check_longest_plan(void) {
@@ -93,11 +113,13 @@ static void check_longest_batch(void) {
     planner_record record;
     uint8_t file[ROOM];
     int k;
-    begin("PLANNER_BATCH_TEXT: the batch text of 24 jobs of 16 ticks and 128 delays");
+    begin("PLANNER_BATCH_TEXT: the batch text of 24 jobs of 16 ticks, 128 delays and 24 windows");
     for (k = 0; k < 16; k++)
         batch.masks[k][k] = 0x8421 + k;
     for (k = 0; k < 128; k++)
         batch.weight[k] = 1000 - 15 * k;
+    for (k = 0; k < 24; k++)
+        give_window(&batch, k, 20000 - 800 * k, 65535 - k);
     open_plain(&batch, &record);
     same((long)file_of(&batch, file), PLANNER_BATCH_TEXT);
     same_text(planner_write_batch, &record, file, PLANNER_BATCH_TEXT);
@@ -105,6 +127,7 @@ static void check_longest_batch(void) {
 
 void check_texts(void) {
     check_short();
+    check_windows();
     check_longest_plan();
     check_longest_batch();
 }

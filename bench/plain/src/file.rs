@@ -1,26 +1,28 @@
-//! Opening a batch file, with refusals 1 to 10.
+//! Opening a batch file of edition 01 or 02, with refusals 1 to 10 and 20.
 
-use crate::starts::{least_starts, Table};
-use crate::{clashes, Batch, Delay, Job, Refusal, Search, CLASHES, DELAYS, JOBS, TICKS};
+use crate::starts::{least_starts, Ends, Table};
+use crate::{clashes, Batch, Delay, Job, Refusal, Search, Window, CLASHES, DELAYS, JOBS, TICKS};
 
 /// Reads a batch file and gives a fresh search for it.
 pub fn open(mut file: &[u8]) -> Result<Search, Refusal> {
-    let batch = read_batch(&mut file)?;
-    refuse_if(8, !file.is_empty())?;
+    let mut batch = read_batch(&mut file)?;
+    refuse_if(8, batch.edition == 1 && !file.is_empty())?;
+    read_windows(&mut batch, file)?;
     refuse_if(9, clashes(&batch).len() > CLASHES)?;
     let mut table = Table::new(batch.jobs().len());
     table.fill(batch.delays());
-    refuse_if(10, least_starts(&table).is_none())?;
+    refuse_if(10, least_starts(&table, &Ends::new(batch.windows())).is_none())?;
     Ok(Search::fresh(batch))
 }
 
 fn read_batch(file: &mut &[u8]) -> Result<Batch, Refusal> {
     let header = next_line(file)?;
     refuse_if(2, header[0] != 0xA0 || header.len() != 4)?;
-    refuse_if(3, header[1] != 1)?;
-    let (n, m) = (header[2], header[3]);
+    refuse_if(3, header[1] != 1 && header[1] != 2)?;
+    let (edition, n, m) = (header[1], header[2], header[3]);
     refuse_if(4, n == 0 || n as usize > JOBS || m as usize > DELAYS)?;
-    let mut batch = Batch { n, m, jobs: [Job::default(); JOBS], delays: [Delay::default(); DELAYS] };
+    let (jobs, delays, windows) = ([Job::default(); JOBS], [Delay::default(); DELAYS], [Window::OPEN; JOBS]);
+    let mut batch = Batch { n, m, edition, jobs, delays, windows };
     for job in &mut batch.jobs[..n.into()] {
         *job = read_job(&next_line(file)?)?;
     }
@@ -46,6 +48,20 @@ fn read_delay(line: &[u8], n: u8) -> Result<Delay, Refusal> {
     refuse_if(5, delay.from >= n || delay.to >= n || delay.from == delay.to)?;
     refuse_if(6, !(-1000..=1000).contains(&delay.weight))?;
     Ok(delay)
+}
+
+/// The lines after the delays, all of kind A3, jobs rising.
+fn read_windows(batch: &mut Batch, mut file: &[u8]) -> Result<(), Refusal> {
+    let mut least = 0;
+    while !file.is_empty() {
+        let line = next_line(&mut file)?;
+        refuse_if(2, line[0] != 0xA3 || line.len() != 6)?;
+        let (job, earliest, latest) = (line[1], u16::from_be_bytes([line[2], line[3]]), u16::from_be_bytes([line[4], line[5]]));
+        refuse_if(20, job >= batch.n || job < least || earliest > 20_000 || earliest > latest)?;
+        least = job + 1;
+        batch.windows[usize::from(job)] = Window { lined: true, earliest, latest };
+    }
+    Ok(())
 }
 
 /// Takes the next line off the file and gives its bytes, at least one.

@@ -1,7 +1,7 @@
 //! The planner's search once more, in plain Rust: the peer that the proved library is measured beside.
 //!
 //! It takes the scope's steps as they stand (soundness of the record, the clash list and each job's stay once a run; at each node the weight table from delays and
-//! turns, rounds, latency, the first met clash, going back), written as one writes Rust for use: safe code, no dependency, nothing allocated at a node.
+//! turns, rounds from the earliest starts, latency, the first met clash, going back), written as one writes Rust for use: safe code, no dependency, nothing allocated at a node.
 
 mod file;
 mod search;
@@ -42,12 +42,27 @@ pub struct Delay {
     pub weight: i16,
 }
 
+/// A job's earliest and latest start, and whether the file has a line for them.
+#[derive(Clone, Copy, Debug, PartialEq, Eq)]
+pub struct Window {
+    pub lined: bool,
+    pub earliest: u16,
+    pub latest: u16,
+}
+
+impl Window {
+    /// That of a job without a line.
+    pub const OPEN: Window = Window { lined: false, earliest: 0, latest: u16::MAX };
+}
+
 #[derive(Clone, Debug, PartialEq, Eq)]
 pub struct Batch {
     pub n: u8,
     pub m: u8,
+    pub edition: u8,
     pub jobs: [Job; JOBS],
     pub delays: [Delay; DELAYS],
+    pub windows: [Window; JOBS],
 }
 
 impl Batch {
@@ -57,6 +72,10 @@ impl Batch {
 
     pub fn delays(&self) -> &[Delay] {
         &self.delays[..self.m.into()]
+    }
+
+    pub fn windows(&self) -> &[Window] {
+        &self.windows[..self.n.into()]
     }
 }
 

@@ -1,7 +1,7 @@
 //! The run: nodes until the search has ended or the budget is used.
 
 use crate::sound::examine;
-use crate::starts::{least_starts, Table};
+use crate::starts::{least_starts, Ends, Table};
 use crate::{Batch, Best, Clash, Refusal, Search, Side, Turn, JOBS};
 
 /// What a run answers.
@@ -31,7 +31,8 @@ impl Search {
 
     fn visit_nodes(&mut self, budget: u32, list: &[Clash], path: Vec<Turn>) {
         let stays = self.batch.jobs().iter().map(|job| job.stay() as i32).collect();
-        let mut work = Work { batch: &self.batch, list, stays, table: Table::new(self.batch.n.into()), path, best: self.best };
+        let (ends, table) = (Ends::new(self.batch.windows()), Table::new(self.batch.n.into()));
+        let mut work = Work { batch: &self.batch, list, stays, ends, table, path, best: self.best };
         let mut left = budget;
         while !self.ended && left > 0 {
             self.ended = !work.visit();
@@ -64,6 +65,7 @@ struct Work<'a> {
     batch: &'a Batch,
     list: &'a [Clash],
     stays: Vec<i32>,
+    ends: Ends,
     table: Table,
     path: Vec<Turn>,
     best: Option<Best>,
@@ -73,7 +75,7 @@ impl Work<'_> {
     /// Visits one node; false when it was the last.
     fn visit(&mut self) -> bool {
         self.fill_table();
-        let Some(starts) = least_starts(&self.table) else {
+        let Some(starts) = least_starts(&self.table, &self.ends) else {
             return self.go_back();
         };
         let latency = self.latency(&starts);

@@ -1,7 +1,7 @@
 //! Which records a run continues.
 
-use crate::starts::{least_starts, Table};
-use crate::{clashes, Batch, Clash, Search, Turn, CLASHES, DELAYS, JOBS, TICKS};
+use crate::starts::{least_starts, Ends, Table};
+use crate::{clashes, Batch, Clash, Search, Turn, Window, CLASHES, DELAYS, JOBS, TICKS};
 
 /// The clash list and the turns of a sound record.
 pub fn examine(search: &Search) -> Option<(Vec<Clash>, Vec<Turn>)> {
@@ -28,16 +28,26 @@ fn within_limits(batch: &Batch) -> bool {
             .delays()
             .iter()
             .all(|delay| delay.from < batch.n && delay.to < batch.n && delay.from != delay.to && (-1000..=1000).contains(&delay.weight))
+        && windows_within_limits(batch)
+}
+
+fn windows_within_limits(batch: &Batch) -> bool {
+    let lined = |window: &Window| window.earliest <= 20_000 && window.earliest <= window.latest;
+    match batch.edition {
+        1 => batch.windows().iter().all(|window| *window == Window::OPEN),
+        2 => batch.windows().iter().all(|window| if window.lined { lined(window) } else { *window == Window::OPEN }),
+        _ => false,
+    }
 }
 
 fn can_be_met(batch: &Batch) -> bool {
     let mut table = Table::new(batch.n.into());
     table.fill(batch.delays());
-    least_starts(&table).is_some()
+    least_starts(&table, &Ends::new(batch.windows())).is_some()
 }
 
 fn best_within_limits(search: &Search) -> bool {
-    search.best.iter().all(|best| best.latency <= 23_016 && best.starts[..search.batch.n.into()].iter().all(|start| *start <= 23_000))
+    search.best.iter().all(|best| best.latency <= 43_016 && best.starts[..search.batch.n.into()].iter().all(|start| *start <= 43_000))
 }
 
 /// The turns on the path: listed clashes, none twice, with empty places only after the last.

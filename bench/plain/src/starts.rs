@@ -1,6 +1,6 @@
 //! The weight table and least starts.
 
-use crate::{Delay, JOBS};
+use crate::{Delay, Window, JOBS};
 
 /// An empty place: so low that no start plus it is above 0.
 const EMPTY: i32 = -1_000_000;
@@ -31,13 +31,35 @@ impl Table {
     }
 }
 
-/// The least starts that keep all inequalities of the table, if there are any.
-pub fn least_starts(table: &Table) -> Option<[i32; JOBS]> {
-    let mut starts = [0; JOBS];
+/// The earliest and the latest starts, one place a job.
+pub struct Ends {
+    earliest: [i32; JOBS],
+    latest: [i32; JOBS],
+}
+
+impl Ends {
+    pub fn new(windows: &[Window]) -> Ends {
+        let mut ends = Ends { earliest: [0; JOBS], latest: [i32::MAX; JOBS] };
+        for (job, window) in windows.iter().enumerate() {
+            ends.earliest[job] = window.earliest.into();
+            ends.latest[job] = window.latest.into();
+        }
+        ends
+    }
+
+    /// Whether no start passes its latest.
+    fn kept(&self, starts: &[i32; JOBS]) -> bool {
+        starts.iter().zip(&self.latest).all(|(start, latest)| start <= latest)
+    }
+}
+
+/// The least starts that keep all inequalities of the table and the ends, if there are any.
+pub fn least_starts(table: &Table, ends: &Ends) -> Option<[i32; JOBS]> {
+    let mut starts = ends.earliest;
     for _ in 0..table.n {
         let next = round(table, &starts);
         if next == starts {
-            return Some(starts);
+            return ends.kept(&starts).then_some(starts);
         }
         starts = next;
     }

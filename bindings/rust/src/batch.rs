@@ -1,4 +1,4 @@
-//! A batch as the record holds it and a caller reads it: jobs and delays, in the C layout.
+//! A batch as the record holds it and a caller reads it: jobs, delays and windows, in the C layout.
 use std::fmt;
 
 /// A delay: job `to` starts at least `weight` ticks after job `from`.
@@ -17,7 +17,7 @@ pub struct Delay {
 #[repr(C)]
 #[derive(Clone, Copy, PartialEq, Eq, Hash)]
 pub struct Job {
-    pub(crate) ticks: u8,
+    pub(crate) ticks: u16,
     pub(crate) masks: [u16; 16],
 }
 
@@ -38,5 +38,47 @@ impl Job {
 impl fmt::Debug for Job {
     fn fmt(&self, out: &mut fmt::Formatter<'_>) -> fmt::Result {
         out.debug_struct("Job").field("masks", &self.masks()).finish()
+    }
+}
+
+/// A job's window: its earliest and its latest start, and whether the batch file has a line for them.
+#[repr(C)]
+#[derive(Clone, Copy, PartialEq, Eq, Hash)]
+pub struct Window {
+    pub(crate) lined: u16,
+    pub(crate) earliest: u16,
+    pub(crate) latest: u16,
+}
+
+impl Window {
+    /// The window of a job without a line.
+    pub(crate) const OPEN: Window = Window { lined: 0, earliest: 0, latest: u16::MAX };
+
+    /// Whether the batch file has a line for it. Without one the earliest start is 0 and the latest 65,535.
+    #[must_use]
+    pub fn has_line(&self) -> bool {
+        self.lined != 0
+    }
+
+    /// The job starts in this tick or later; 0 to 20,000.
+    #[must_use]
+    pub fn earliest(&self) -> u16 {
+        self.earliest
+    }
+
+    /// The job starts in this tick or earlier.
+    #[must_use]
+    pub fn latest(&self) -> u16 {
+        self.latest
+    }
+}
+
+impl fmt::Debug for Window {
+    fn fmt(&self, out: &mut fmt::Formatter<'_>) -> fmt::Result {
+        out.debug_struct("Window")
+            .field("has_line", &self.has_line())
+            .field("earliest", &self.earliest())
+            .field("latest", &self.latest())
+            .finish()
     }
 }

@@ -1,5 +1,5 @@
 //! The C interface as include/planner.h has it: the same structs by the same names, the five calls, and the version.
-use crate::batch::{Delay, Job};
+use crate::batch::{Delay, Job, Window};
 use std::mem::{align_of, offset_of, size_of};
 
 #[repr(C)]
@@ -7,8 +7,10 @@ use std::mem::{align_of, offset_of, size_of};
 pub struct Batch {
     pub n: u8,
     pub m: u8,
+    pub edition: u16,
     pub jobs: [Job; 24],
     pub delays: [Delay; 128],
+    pub windows: [Window; 24],
 }
 
 #[repr(C)]
@@ -23,8 +25,8 @@ pub struct Turn {
 pub struct Record {
     pub total: u32,
     pub latency: u16,
-    pub found: u16,
-    pub ended: u16,
+    pub found: u8,
+    pub ended: u8,
     pub starts: [u16; 24],
     pub batch: Batch,
     pub path: [Turn; 1024],
@@ -57,14 +59,21 @@ impl Record {
             found: 0,
             ended: 0,
             starts: [0; 24],
-            batch: Batch { n: 0, m: 0, jobs: [Job { ticks: 0, masks: [0; 16] }; 24], delays: [Delay { from: 0, to: 0, weight: 0 }; 128] },
+            batch: Batch {
+                n: 0,
+                m: 0,
+                edition: 0,
+                jobs: [Job { ticks: 0, masks: [0; 16] }; 24],
+                delays: [Delay { from: 0, to: 0, weight: 0 }; 128],
+                windows: [Window::OPEN; 24],
+            },
             path: [Turn { clash: 65535, side: 0 }; 1024],
         }
     }
 }
 
 extern "C" {
-    pub fn planner_version_3() -> u32;
+    pub fn planner_version_4() -> u32;
     pub fn planner_open(file: *const u8, length: usize, record: *mut Record) -> u8;
     pub fn planner_run(record: *mut Record, budget: u32, starts: *mut u16, count: usize) -> Answer;
     pub fn planner_write_plan(record: *const Record, buffer: *mut u8, capacity: usize) -> Text;
@@ -77,15 +86,22 @@ const _: () = assert!(size_of::<Delay>() == 4 && align_of::<Delay>() == 2);
 const _: () = assert!(offset_of!(Delay, from) == 0 && offset_of!(Delay, to) == 1 && offset_of!(Delay, weight) == 2);
 const _: () = assert!(size_of::<Job>() == 34 && align_of::<Job>() == 2);
 const _: () = assert!(offset_of!(Job, ticks) == 0 && offset_of!(Job, masks) == 2);
-const _: () = assert!(size_of::<Batch>() == 1330 && align_of::<Batch>() == 2);
-const _: () = assert!(offset_of!(Batch, n) == 0 && offset_of!(Batch, m) == 1);
-const _: () = assert!(offset_of!(Batch, jobs) == 2 && offset_of!(Batch, delays) == 818);
+const _: () = assert!(size_of::<Window>() == 6 && align_of::<Window>() == 2);
+const _: () = assert!(offset_of!(Window, lined) == 0 && offset_of!(Window, earliest) == 2 && offset_of!(Window, latest) == 4);
+const _: () = assert!(size_of::<Batch>() == 1476 && align_of::<Batch>() == 2);
+const _: () = assert!(offset_of!(Batch, n) == 0 && offset_of!(Batch, m) == 1 && offset_of!(Batch, edition) == 2);
+const _: () = assert!(offset_of!(Batch, jobs) == 4 && offset_of!(Batch, delays) == 820 && offset_of!(Batch, windows) == 1332);
 const _: () = assert!(size_of::<Turn>() == 4 && align_of::<Turn>() == 2);
 const _: () = assert!(offset_of!(Turn, clash) == 0 && offset_of!(Turn, side) == 2);
-const _: () = assert!(size_of::<Record>() == 5484 && align_of::<Record>() == 4);
+const _: () = assert!(size_of::<Record>() == 5628 && align_of::<Record>() == 4);
 const _: () = assert!(offset_of!(Record, total) == 0 && offset_of!(Record, latency) == 4);
-const _: () = assert!(offset_of!(Record, found) == 6 && offset_of!(Record, ended) == 8);
-const _: () = assert!(offset_of!(Record, starts) == 10 && offset_of!(Record, batch) == 58 && offset_of!(Record, path) == 1388);
+const _: () = assert!(offset_of!(Record, found) == 6 && offset_of!(Record, ended) == 7);
+const _: () = assert!(offset_of!(Record, starts) == 8 && offset_of!(Record, batch) == 56 && offset_of!(Record, path) == 1532);
+// No padding: each struct's fields fill it.
+const _: () =
+    assert!(size_of::<Delay>() == 2 + 2 && size_of::<Job>() == 2 + 2 * 16 && size_of::<Window>() == 3 * 2 && size_of::<Turn>() == 2 * 2);
+const _: () = assert!(size_of::<Batch>() == 4 + 24 * size_of::<Job>() + 128 * size_of::<Delay>() + 24 * size_of::<Window>());
+const _: () = assert!(size_of::<Record>() == 8 + 24 * 2 + size_of::<Batch>() + 1024 * size_of::<Turn>());
 const _: () = assert!(size_of::<Answer>() == 8 && align_of::<Answer>() == 4);
 const _: () = assert!(offset_of!(Answer, kind) == 0 && offset_of!(Answer, refusal) == 1);
 const _: () = assert!(offset_of!(Answer, latency) == 2 && offset_of!(Answer, total) == 4);

@@ -21,7 +21,8 @@
 //! # Ok::<(), planner::Refusal>(())
 //! ```
 //!
-//! A plan text, wherever it comes from, is judged beside its batch file by [`judge`].
+//! A batch file of edition 02 may give jobs a [`Window`], an earliest and a latest start; a plan with a start outside is not valid. A plan text,
+//! wherever it comes from, is judged beside its batch file by [`judge`].
 //!
 //! # Linking
 //!
@@ -36,14 +37,16 @@ mod ffi;
 mod misuse;
 mod refusal;
 
-pub use batch::{Delay, Job};
+pub use batch::{Delay, Job, Window};
 pub use refusal::Refusal;
 use std::fmt;
 
 /// The version of the library that this crate calls. It rises whenever the record's layout, a number's meaning or a call changes, and when a call is added.
-pub const VERSION: u32 = 3;
+pub const VERSION: u32 = 4;
 /// The most jobs of a batch.
 pub const JOBS: usize = 24;
+/// The largest earliest start of a job.
+pub const EARLIEST: u16 = 20_000;
 /// The most nodes of one run.
 pub const BUDGET: u32 = 1_000_000;
 /// The most nodes of a search, all runs together.
@@ -51,7 +54,7 @@ pub const TOTAL: u32 = 100_000_000;
 /// The length of the longest plan text in bytes.
 pub const PLAN_TEXT: usize = 235;
 /// The length of the longest batch text in bytes.
-pub const BATCH_TEXT: usize = 3073;
+pub const BATCH_TEXT: usize = 3385;
 
 /// What a run came to. `total` is the number of nodes visited since the search was opened.
 #[must_use = "the answer says whether the search goes on"]
@@ -106,7 +109,7 @@ impl fmt::Debug for Plan {
     }
 }
 
-/// The search for a batch's shortest plan: 5,484 bytes of plain data, to be kept between runs, cloned or sent to another thread.
+/// The search for a batch's shortest plan: 5,628 bytes of plain data, to be kept between runs, cloned or sent to another thread.
 #[derive(Clone, PartialEq, Eq)]
 pub struct Search {
     record: ffi::Record,
@@ -124,8 +127,8 @@ impl Search {
     ///
     /// Refusals 1 [`Line`](Refusal::Line), 2 [`Frame`](Refusal::Frame), 3 [`Edition`](Refusal::Edition), 4 [`Count`](Refusal::Count),
     /// 5 [`Job`](Refusal::Job), 6 [`Weight`](Refusal::Weight), 7 [`Missing`](Refusal::Missing), 8 [`Extra`](Refusal::Extra),
-    /// 9 [`Clashes`](Refusal::Clashes) and 10 [`Delays`](Refusal::Delays). They are asked line by line, in a line 7 first and then 1 to 6; after
-    /// the last line 8, 9 and 10. The first whose condition holds is given.
+    /// 9 [`Clashes`](Refusal::Clashes), 10 [`Delays`](Refusal::Delays) and 20 [`Window`](Refusal::Window). They are asked line by line, in a line 7
+    /// first and then 1 to 6 and 20; after the last line 8, 9 and 10. The first whose condition holds is given.
     pub fn open(file: &[u8]) -> Result<Search, Refusal> {
         assert_version();
         let mut record = ffi::Record::blank();
@@ -213,6 +216,26 @@ impl Search {
         &self.record.batch.delays[..usize::from(self.record.batch.m)]
     }
 
+    /// The edition of the batch file, 1 or 2.
+    #[must_use]
+    pub fn edition(&self) -> u16 {
+        self.record.batch.edition
+    }
+
+    /// The windows of the batch's jobs, one for each, in the order of the jobs.
+    ///
+    /// ```
+    /// let search = planner::Search::open(b"A0020200\nA1010001\nA1010002\nA30100050009\n")?;
+    /// let [first, second] = search.windows() else { panic!("the file has two jobs") };
+    /// assert_eq!((first.has_line(), first.earliest(), first.latest()), (false, 0, 65535));
+    /// assert_eq!((second.has_line(), second.earliest(), second.latest()), (true, 5, 9));
+    /// # Ok::<(), planner::Refusal>(())
+    /// ```
+    #[must_use]
+    pub fn windows(&self) -> &[Window] {
+        &self.record.batch.windows[..usize::from(self.record.batch.n)]
+    }
+
     /// Writes the plan text into the buffer's first bytes and gives their number; the rest of the buffer is left.
     ///
     /// # Errors
@@ -290,7 +313,7 @@ impl fmt::Debug for Search {
 ///
 /// # Errors
 ///
-/// First the file's refusals 1 to 10, as [`Search::open`] gives them; then, in this order, 17 [`Form`](Refusal::Form), asked of the whole text,
+/// First the file's refusals 1 to 10 and 20, as [`Search::open`] gives them; then, in this order, 17 [`Form`](Refusal::Form), asked of the whole text,
 /// 18 [`Order`](Refusal::Order) and 19 [`Invalid`](Refusal::Invalid).
 pub fn judge(file: &[u8], text: &[u8]) -> Result<(), Refusal> {
     assert_version();
@@ -301,7 +324,7 @@ pub fn judge(file: &[u8], text: &[u8]) -> Result<(), Refusal> {
 /// Asks the library for its version. Who calls this refers to a name that an archive of another version has not.
 fn assert_version() {
     // SAFETY: the call takes nothing and touches no memory.
-    let version = unsafe { ffi::planner_version_3() };
+    let version = unsafe { ffi::planner_version_4() };
     assert_eq!(version, VERSION, "the library has another version than its function's name says");
 }
 
@@ -310,7 +333,7 @@ fn accepted(number: u8) -> Result<(), Refusal> {
     match Refusal::from_number(number) {
         Some(refusal) => Err(refusal),
         None => {
-            assert_eq!(number, 0, "the library has refusals 1 to 19");
+            assert_eq!(number, 0, "the library has refusals 1 to 20");
             Ok(())
         }
     }
@@ -335,5 +358,35 @@ mod tests {
         assert_eq!(search.plan_text(), Err(Refusal::Record));
         assert_eq!(search.batch_text(), Err(Refusal::Record));
         assert!(search == before);
+    }
+
+    /// Editions and windows that no file has, and a window that comes to a search from elsewhere.
+    #[test]
+    fn windows_from_elsewhere() {
+        let fresh = Search::open(b"A0010200\nA1010001\nA103000100020002\n").unwrap();
+        let changed = |edition: u16, window: Window| {
+            let mut search = fresh.clone();
+            search.record.batch.edition = edition;
+            search.record.batch.windows[0] = window;
+            search
+        };
+        let window = |lined, earliest, latest| Window { lined, earliest, latest };
+        let unsound = [
+            changed(0, Window::OPEN),
+            changed(3, Window::OPEN),
+            changed(1, window(1, 0, 65535)),
+            changed(2, window(0, 1, 65535)),
+            changed(2, window(0, 0, 65534)),
+            changed(2, window(1, EARLIEST + 1, 65535)),
+            changed(2, window(1, 1, 0)),
+        ];
+        for mut search in unsound {
+            assert_eq!((search.run(1), search.batch_text()), (Err(Refusal::Record), Err(Refusal::Record)), "{:?}", search.windows());
+        }
+        let mut search = changed(2, window(256, 0, 0));
+        assert_eq!(search.run(3), Ok(Answer::Plan { latency: 4, total: 3 }));
+        assert_eq!(search.batch_text().unwrap(), b"A0020200\nA1010001\nA103000100020002\nA30000000000\n");
+        let mut last = changed(2, window(1, EARLIEST, 65535));
+        assert_eq!(last.run(1), Ok(Answer::Plan { latency: EARLIEST + 1, total: 1 }));
     }
 }

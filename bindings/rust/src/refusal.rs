@@ -1,4 +1,4 @@
-//! What sends a call back: the nineteen refusals by number, name and words.
+//! What sends a call back: the twenty refusals by number, name and words.
 use std::error::Error;
 use std::fmt;
 
@@ -6,7 +6,7 @@ macro_rules! refusals {
     ($($number:literal $name:ident $words:literal)*) => {
         /// Why a call was refused. A refused call changes nothing.
         ///
-        /// Opening gives 1 to 10, running 11 to 14, writing 12, 15 and 16, judging 1 to 10 and 17 to 19. A [`Search`](crate::Search) is always
+        /// Opening gives 1 to 10 and 20, running 11 to 14, writing 12, 15 and 16, judging 1 to 10 and 17 to 20. A [`Search`](crate::Search) is always
         /// sound and its starts always have room, so 12 and 13 never come from the calls of this crate; they are here because the library's
         /// numbers have them.
         #[derive(Clone, Copy, Debug, PartialEq, Eq, Hash, PartialOrd, Ord)]
@@ -17,7 +17,7 @@ macro_rules! refusals {
 
         impl Refusal {
             /// Every refusal, in the order of their numbers.
-            pub const ALL: [Refusal; 19] = [$(Refusal::$name,)*];
+            pub const ALL: [Refusal; 20] = [$(Refusal::$name,)*];
 
             /// The refusal's condition in words.
             #[must_use]
@@ -32,15 +32,15 @@ macro_rules! refusals {
 
 refusals! {
     1 Line "a line without 0A, without digits, with an odd count, or with another byte than 0-9 and A-F"
-    2 Frame "the first byte is not the kind due, or the length is wrong"
-    3 Edition "the edition is not 01"
+    2 Frame "the first byte is no kind that is due there, or the length is wrong"
+    3 Edition "the edition is neither 01 nor 02"
     4 Count "n, m or p is outside its limits (1 to 24 jobs, at most 128 delays, 1 to 16 ticks)"
     5 Job "a delay names a job of n or above, or one job twice"
     6 Weight "a weight is outside -1,000 to 1,000"
     7 Missing "the file ends where a frame is due"
-    8 Extra "bytes after the last frame"
+    8 Extra "bytes after the last frame of edition 01"
     9 Clashes "more than 1,024 clashes"
-    10 Delays "no starts meet the delays"
+    10 Delays "no starts meet the delays and the windows"
     11 Budget "a budget above 1,000,000"
     12 Record "the record is not sound"
     13 Starts "the starts list is shorter than n"
@@ -50,16 +50,17 @@ refusals! {
     17 Form "the plan text is not one B0 line with 01 and then only B1 lines, each of its length"
     18 Order "the plan text's n is not the batch's, or its job lines are not jobs 0 to n - 1 in order"
     19 Invalid "the plan is not valid, or its latency is wrong"
+    20 Window "a window's job is of n or above or not above the window's before, or its earliest start is above 20,000 or above its latest"
 }
 
 impl Refusal {
-    /// The refusal's number, 1 to 19.
+    /// The refusal's number, 1 to 20.
     #[must_use]
     pub fn number(self) -> u8 {
         self as u8
     }
 
-    /// The refusal with this number; none outside 1 to 19.
+    /// The refusal with this number; none outside 1 to 20.
     #[must_use]
     pub fn from_number(number: u8) -> Option<Refusal> {
         Refusal::ALL.get(usize::from(number).checked_sub(1)?).copied()

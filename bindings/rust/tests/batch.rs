@@ -1,14 +1,25 @@
-//! The jobs and delays of a search are those of its file, place by place, from the opening to the end.
+//! The jobs, delays and windows of a search are those of its file, place by place, from the opening to the end.
 mod common;
 
 use common::{batch_files, Batch, Random};
 use planner::{Answer, Search};
+
+/// The windows that have a line; none are there in edition 01. Those without a line say nothing.
+fn windows(search: &Search) -> Option<Vec<(usize, u16, u16)>> {
+    let all = search.windows().iter().map(|window| (window.has_line(), window.earliest(), window.latest())).enumerate();
+    let (lined, free): (Vec<_>, Vec<_>) = all.partition(|(_, window)| window.0);
+    assert!(search.windows().len() == search.jobs().len() && free.iter().all(|(_, window)| *window == (false, 0, 65535)));
+    let lined: Vec<(usize, u16, u16)> = lined.into_iter().map(|(job, (_, earliest, latest))| (job, earliest, latest)).collect();
+    assert!(matches!(search.edition(), 1 | 2) && (search.edition() == 2 || lined.is_empty()));
+    (search.edition() == 2).then_some(lined)
+}
 
 /// The batch as the search gives it, in the tests' own numbers.
 fn given(search: &Search) -> Batch {
     Batch {
         jobs: search.jobs().iter().map(|job| job.masks().to_vec()).collect(),
         delays: search.delays().iter().map(|delay| (delay.from.into(), delay.to.into(), delay.weight)).collect(),
+        windows: windows(search),
     }
 }
 
@@ -21,7 +32,7 @@ fn compared(batch: &Batch, mut search: Search) -> (usize, usize) {
         assert!(search.run(budget).is_ok());
         assert_eq!(given(&search), *batch);
     }
-    assert_eq!((clone.jobs(), clone.delays()), (search.jobs(), search.delays()));
+    assert_eq!((clone.jobs(), clone.delays(), clone.windows()), (search.jobs(), search.delays(), search.windows()));
     (batch.jobs.len(), batch.delays.len())
 }
 
@@ -41,25 +52,26 @@ fn files_of_the_repository() {
 #[test]
 fn random_batches() {
     let mut random = Random::new(5);
-    let (mut jobs, mut delays) = (0, 0);
-    for _ in 0..1000 {
-        let batch = random.batch(24);
+    let (mut jobs, mut delays, mut windows) = (0, 0, 0);
+    for k in 0..2000 {
+        let batch = if k < 1000 { random.batch(24) } else { random.windowed(24) };
         if let Ok(search) = Search::open(&batch.file()) {
             let (n, m) = compared(&batch, search);
-            (jobs, delays) = (jobs + n, delays + m);
+            (jobs, delays, windows) = (jobs + n, delays + m, windows + batch.windows.map_or(0, |windows| windows.len()));
         }
     }
-    println!("{jobs} jobs and {delays} delays");
-    assert!(jobs >= 1000 && delays >= 100, "too few batches were accepted");
+    println!("{jobs} jobs, {delays} delays and {windows} windows");
+    assert!(jobs >= 2000 && delays >= 200 && windows >= 500, "too few batches were accepted");
 }
 
-/// Every place of the record is filled: 24 jobs of 16 ticks, 128 delays, weights at both ends.
+/// Every place of the record is filled: 24 jobs of 16 ticks, 128 delays, weights at both ends, 24 windows.
 #[test]
 fn largest_batch() {
     let mut jobs = vec![vec![0; 16]; 24];
     jobs[23] = (0..16).map(|tick| 0xFFFF - 0x0F0F * tick).collect();
     let delays = (0..128).map(|k| (k % 24, (k + 1) % 24, if k % 24 < 23 { k as i16 - 127 } else { -1000 })).collect();
-    let batch = Batch { jobs, delays };
+    let windows = (0..24).map(|job| (job, 20_000 - 800 * job as u16, 65_535 - job as u16)).collect();
+    let batch = Batch { jobs, delays, windows: Some(windows) };
     let search = Search::open(&batch.file()).unwrap();
     assert_eq!(compared(&batch, search), (24, 128));
 }
@@ -70,5 +82,6 @@ fn smallest_batch() {
     let mut search = Search::open(b"A0010100\nA1018001\n").unwrap();
     assert_eq!((search.jobs().len(), search.jobs()[0].ticks(), search.jobs()[0].masks()), (1, 1, &[0x8001][..]));
     assert!(search.delays().is_empty());
+    assert_eq!((search.edition(), search.windows().len(), search.windows()[0].has_line()), (1, 1, false));
     assert_eq!(search.run(1), Ok(Answer::Plan { latency: 1, total: 1 }));
 }

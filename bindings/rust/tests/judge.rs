@@ -93,8 +93,9 @@ fn refusals() {
 /// The file's refusals are those of opening, whatever the text is.
 #[test]
 fn refused_files() {
-    let crowd = Batch { jobs: vec![vec![1; 16]; 9], delays: Vec::new() }.file();
-    let files: [&[u8]; 7] = [b"", b"A0010\n", b"A0010000\n", b"A0010100\nA1010001\n\n", C3_PLAN, &crowd, &C3[..34]];
+    let crowd = Batch { jobs: vec![vec![1; 16]; 9], ..Batch::default() }.file();
+    let late: [&[u8]; 2] = [b"A0020100\nA1010001\nA30000020001\n", b"A0020201\nA1010001\nA1010002\nA200010005\nA30100000004\n"];
+    let files: [&[u8]; 9] = [b"", b"A0010\n", b"A0010000\n", b"A0010100\nA1010001\n\n", C3_PLAN, &crowd, &C3[..34], late[0], late[1]];
     for file in files {
         let refusal = Search::open(file).expect_err("a refused file");
         for text in [b"", C3_PLAN, file] {
@@ -108,6 +109,7 @@ fn plans_of_searches() {
     let mut random = Random::new(6);
     let mut files: Vec<Vec<u8>> = batch_files("examples").into_iter().map(|(_, file)| file).collect();
     files.extend((0..600).map(|_| random.batch(6).file()));
+    files.extend((0..600).map(|_| random.windowed(6).file()));
     let (mut plans, mut none) = (0, 0);
     for file in files {
         let Some(mut search) = searched(&file, &mut random) else { continue };
@@ -129,8 +131,8 @@ fn plans_of_searches() {
 fn random_starts() {
     let mut random = Random::new(7);
     let mut seen = BTreeMap::new();
-    for _ in 0..6000 {
-        let batch = random.batch(4);
+    for k in 0..9000 {
+        let batch = if k < 6000 { random.batch(4) } else { random.windowed(4) };
         if Search::open(&batch.file()).is_err() {
             continue;
         }

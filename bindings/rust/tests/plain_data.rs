@@ -52,4 +52,7 @@ fn shows_what_is_used() {
     assert_eq!(format!("{:?}", search.jobs()), "[Job { masks: [1, 32768] }, Job { masks: [2] }]");
     assert_eq!(format!("{:04X?}", search.jobs()[0]), "Job { masks: [0001, 8000] }");
     assert_eq!(format!("{:?}", search.delays()), "[Delay { from: 0, to: 1, weight: -1000 }]");
+    let search = Search::open(b"A0020200\nA1010001\nA1010002\nA30100050009\n").unwrap();
+    let due = "[Window { has_line: false, earliest: 0, latest: 65535 }, Window { has_line: true, earliest: 5, latest: 9 }]";
+    assert_eq!(format!("{:?}", search.windows()), due);
 }

@@ -11,11 +11,11 @@ const C3: &[u8] = b"A0010200\nA1010001\nA103000100020002\n";
 #[test]
 fn numbers() {
     let numbers: Vec<u8> = Refusal::ALL.iter().map(|refusal| refusal.number()).collect();
-    assert_eq!(numbers, (1..=19).collect::<Vec<u8>>());
+    assert_eq!(numbers, (1..=20).collect::<Vec<u8>>());
     for refusal in Refusal::ALL {
         assert_eq!(Refusal::from_number(refusal.number()), Some(refusal));
     }
-    assert_eq!((Refusal::from_number(0), Refusal::from_number(20), Refusal::from_number(255)), (None, None, None));
+    assert_eq!((Refusal::from_number(0), Refusal::from_number(21), Refusal::from_number(255)), (None, None, None));
 }
 
 /// The words are those of the README's table of refusals.
@@ -27,22 +27,22 @@ fn words() {
     for row in table.lines().take_while(|line| !line.starts_with("## ")) {
         let cells: Vec<&str> = row.split('|').map(str::trim).collect();
         let Some(Ok(number)) = cells.get(1).map(|cell| cell.parse()) else { continue };
-        let refusal = Refusal::from_number(number).expect("a number of 1 to 19");
+        let refusal = Refusal::from_number(number).expect("a number of 1 to 20");
         assert_eq!(refusal.to_string(), cells[2]);
         let error: Box<dyn std::error::Error> = Box::new(refusal);
         assert_eq!(error.to_string(), cells[2]);
         compared += 1;
     }
-    assert_eq!(compared, 19);
+    assert_eq!(compared, 20);
 }
 
 #[test]
 fn opening() {
-    let crowd = Batch { jobs: vec![vec![1; 16]; 9], delays: Vec::new() }.file();
-    let rows: [(&[u8], Refusal, u8); 10] = [
+    let crowd = Batch { jobs: vec![vec![1; 16]; 9], ..Batch::default() }.file();
+    let rows: [(&[u8], Refusal, u8); 22] = [
         (b"A0010\n", Refusal::Line, 1),
         (b"A0010100\nA10100\n", Refusal::Frame, 2),
-        (b"A0020100\nA1010001\n", Refusal::Edition, 3),
+        (b"A0030100\nA1010001\n", Refusal::Edition, 3),
         (b"A0010000\n", Refusal::Count, 4),
         (b"A0010201\nA1010001\nA1010002\nA200000001\n", Refusal::Job, 5),
         (b"A0010201\nA1010001\nA1010002\nA2000103E9\n", Refusal::Weight, 6),
@@ -50,6 +50,18 @@ fn opening() {
         (b"A0010100\nA1010001\n\n", Refusal::Extra, 8),
         (&crowd, Refusal::Clashes, 9),
         (b"A0010202\nA1010001\nA1010002\nA200010001\nA201000000\n", Refusal::Delays, 10),
+        (b"A0020100\nA1010001\n\n", Refusal::Line, 1),
+        (b"A0020100\nA1010001\na30000000001\n", Refusal::Line, 1),
+        (b"A0020100\nA1010001\nA300000000\n", Refusal::Frame, 2),
+        (b"A0020100\nA1010001\nA4000001\n", Refusal::Frame, 2),
+        (b"A0020200\nA1010001\nA1010002\nA200010001\n", Refusal::Frame, 2),
+        (b"A0010100\nA1010001\nA30000000001\n", Refusal::Extra, 8),
+        (b"A0020201\nA1010001\nA1010002\nA200010005\nA30100000004\n", Refusal::Delays, 10),
+        (b"A0020100\nA1010001\nA30100000001\n", Refusal::Window, 20),
+        (b"A0020100\nA1010001\nA30000000001\nA30000000001\n", Refusal::Window, 20),
+        (b"A0020100\nA1010001\nA3004E21FFFF\n", Refusal::Window, 20),
+        (b"A0020100\nA1010001\nA30000020001\n", Refusal::Window, 20),
+        (b"A0020100\nA1010001\nA30000020001\nG\n", Refusal::Window, 20),
     ];
     for (file, refusal, number) in rows {
         assert_eq!(Search::open(file), Err(refusal));
@@ -89,7 +101,8 @@ fn writing() {
 /// The longest texts fit the buffers that the crate names, and nothing shorter.
 #[test]
 fn longest_texts() {
-    let batch = Batch { jobs: vec![vec![0; 16]; 24], delays: vec![(0, 1, -1000); 128] };
+    let windows = (0..24).map(|job| (job, 0, 65535)).collect();
+    let batch = Batch { jobs: vec![vec![0; 16]; 24], delays: vec![(0, 1, -1000); 128], windows: Some(windows) };
     let mut search = Search::open(&batch.file()).unwrap();
     assert_eq!(search.run(1), Ok(Answer::Plan { latency: 0, total: 1 }));
     assert_eq!(search.plan_text().unwrap().len(), PLAN_TEXT);
@@ -98,13 +111,13 @@ fn longest_texts() {
     assert_eq!(search.write_batch(&mut [0; BATCH_TEXT - 1]), Err(Refusal::Buffer));
 }
 
-/// Files with a byte changed, left out or put in: accepted and written back, or refused with 1 to 10.
+/// Files with a byte changed, left out or put in: accepted and written back, or refused with 1 to 10 or 20.
 #[test]
 fn damaged_files() {
     let mut random = Random::new(4);
     let (mut seen, mut accepted) = (BTreeSet::new(), 0);
-    for _ in 0..4000 {
-        let mut file = random.batch(5).file();
+    for k in 0..8000 {
+        let mut file = if k < 4000 { random.batch(5) } else { random.windowed(5) }.file();
         let place = random.below(file.len() as u64) as usize;
         let byte = b"0123456789ABCDEF\n\rag\0"[random.below(21) as usize];
         match random.below(3) {
@@ -121,5 +134,5 @@ fn damaged_files() {
         }
     }
     println!("{accepted} accepted; refusals seen: {seen:?}");
-    assert!(accepted >= 100 && seen.len() >= 7 && seen.iter().all(|number| (1..=10).contains(number)));
+    assert!(accepted >= 200 && seen.len() >= 8 && seen.remove(&20) && seen.iter().all(|number| (1..=10).contains(number)));
 }

@@ -1,5 +1,6 @@
 // Setting one place of a record. A field goes by its number: 0 n, 1 m, 2 ticks of job A, 3 mask B of job A, 4 from, 5 to and 6 weight
-// of delay A, 7 clash and 8 side of the path's place A, 9 best, 10 place A of best's starts, 11 total, 12 ended.
+// of delay A, 7 clash and 8 side of the path's place A, 9 best, 10 place A of best's starts, 11 total, 12 ended, 13 edition, 14 whether job A has a line,
+// 15 its earliest and 16 its latest start.
 use crate::weight::weight_of;
 use model::Batch;
 use model::Best;
@@ -7,6 +8,7 @@ use model::Delay;
 use model::Job;
 use model::Search;
 use model::Turn;
+use model::Window;
 
 // How many numbers there are up to the largest of a line.
 const ANY: u64 = 4294967296;
@@ -19,7 +21,7 @@ pub fn is_in_range(field: usize, a: u64, b: u64, value: u64) -> bool {
 // How many places A names.
 fn firsts(field: usize) -> u64 {
     match field {
-        2 | 3 | 10 => 24,
+        2 | 3 | 10 | 14..=16 => 24,
         4 | 5 | 6 => 128,
         7 | 8 => 1024,
         _ => ANY,
@@ -34,8 +36,8 @@ fn seconds(field: usize) -> u64 {
 // How many values the field holds; none where there is no such field.
 fn values(field: usize) -> u64 {
     match field {
-        0 | 1 | 2 | 4 | 5 => 256,
-        3 | 6 | 7 | 8 | 10 => 65536,
+        0 | 1 | 4 | 5 => 256,
+        2 | 3 | 6 | 7 | 8 | 10 | 13..=16 => 65536,
         9 => 65537,
         11 => ANY,
         12 => 2,
@@ -47,7 +49,7 @@ fn values(field: usize) -> u64 {
 pub fn set(search: Search, field: usize, a: usize, b: usize, value: u64) -> Search {
     let mut next = search;
     match field {
-        0..=6 => {
+        0..=6 | 13..=16 => {
             let batch = search.batch;
             let changed = set_batch(batch, field, a, b, value);
             next.batch = changed;
@@ -86,6 +88,16 @@ fn set_batch(batch: Batch, field: usize, a: usize, b: usize, value: u64) -> Batc
         1 => {
             next.m = (value % 256) as u8;
         }
+        13 => {
+            next.edition = (value % 65536) as u16;
+        }
+        14..=16 => {
+            if a < 24 {
+                let window = batch.windows[a];
+                let changed = set_window(window, field, value);
+                next.windows[a] = changed;
+            }
+        }
         2 | 3 => {
             if a < 24 {
                 let job = batch.jobs[a];
@@ -107,7 +119,7 @@ fn set_batch(batch: Batch, field: usize, a: usize, b: usize, value: u64) -> Batc
 fn set_job(job: Job, field: usize, b: usize, value: u64) -> Job {
     let mut next = job;
     if field == 2 {
-        next.ticks = (value % 256) as u8;
+        next.ticks = (value % 65536) as u16;
         return next;
     }
     if b < 16 {
@@ -134,6 +146,23 @@ fn set_delay(delay: Delay, field: usize, value: u64) -> Delay {
             weight: weight_of((value % 65536) as u16),
         },
     }
+}
+
+fn set_window(window: Window, field: usize, value: u64) -> Window {
+    let mut next = window;
+    let number = (value % 65536) as u16;
+    match field {
+        14 => {
+            next.lined = number;
+        }
+        15 => {
+            next.earliest = number;
+        }
+        _ => {
+            next.latest = number;
+        }
+    }
+    next
 }
 
 fn set_path(path: [Turn; 1024], field: usize, a: usize, value: u64) -> [Turn; 1024] {

@@ -11,6 +11,7 @@ use model::Delay;
 use model::Job;
 use model::Search;
 use model::Turn;
+use model::Window;
 
 // The sum over a whole record.
 pub fn sum_of(search: Search) -> u64 {
@@ -32,8 +33,10 @@ fn summed(sum: u64, number: u64) -> u64 {
 fn sum_batch(sum: u64, batch: Batch) -> u64 {
     let jobs = batch.jobs;
     let delays = batch.delays;
+    let windows = batch.windows;
     let counts = summed(summed(sum, of_byte(batch.n)), of_byte(batch.m));
-    sum_delays(sum_jobs(counts, jobs), delays)
+    let edition = summed(counts, of_pair(batch.edition));
+    sum_windows(sum_delays(sum_jobs(edition, jobs), delays), windows)
 }
 
 fn sum_jobs(sum: u64, jobs: [Job; 24]) -> u64 {
@@ -48,7 +51,7 @@ fn sum_jobs(sum: u64, jobs: [Job; 24]) -> u64 {
 
 fn sum_job(sum: u64, job: Job) -> u64 {
     let masks = job.masks;
-    sum_list(summed(sum, of_byte(job.ticks)), &masks)
+    sum_list(summed(sum, of_pair(job.ticks)), &masks)
 }
 
 fn sum_delays(sum: u64, delays: [Delay; 128]) -> u64 {
@@ -64,6 +67,18 @@ fn sum_delays(sum: u64, delays: [Delay; 128]) -> u64 {
 fn sum_delay(sum: u64, delay: Delay) -> u64 {
     let ends = summed(summed(sum, of_byte(delay.from)), of_byte(delay.to));
     summed(ends, of_pair(raised(delay.weight)))
+}
+
+fn sum_windows(sum: u64, windows: [Window; 24]) -> u64 {
+    let mut next = sum;
+    let mut i: usize = 0;
+    while i < 24 {
+        let window = windows[i];
+        let ends = summed(summed(next, of_pair(window.lined)), of_pair(window.earliest));
+        next = summed(ends, of_pair(window.latest));
+        i += 1;
+    }
+    next
 }
 
 fn sum_path(sum: u64, path: [Turn; 1024]) -> u64 {

@@ -10,16 +10,17 @@ use lib.IntN.{ℤ, subℕ}
 use lib.Signed.{leZ}
 use lib.Dec.{leb}
 use borrow.Author.Tests.{leb-true, le-leb}
+use Rattle.model.specs.declared.Window.{Window}
 use Rattle.model.specs.declared.Batch.{Batch}
 use Rattle.model.specs.declared.Delay.{Delay}
-use Rattle.model.specs.Common.{count, all, isSome}
-use Rattle.model.specs.Batch.{delayOf, delaysOf}
+use Rattle.model.specs.Common.{between, count, all, isSome}
+use Rattle.model.specs.Batch.{delayOf, delaysOf, earliest, latest}
 use Rattle.model.specs.Plan.{start, finish, latency}
 use Rattle.model.specs.Clash.{Clash, clashes}
 use Rattle.model.specs.Search.{met, firstMet}
 use Rattle.model.specs.Format.{Within}
 use Rattle.model.specs.Open.{fewClashes}
-use Rattle.model.specs.Judge.{keeps, valid}
+use Rattle.model.specs.Judge.{keeps, keepsEnds, valid}
 use Rattle.model.proofs.BoolLaws.{same-test, passes, fails}
 use Rattle.model.proofs.PlusLaws.{plus-le, le-plus}
 use Rattle.model.proofs.SeqLaws.{listed-cong}
@@ -35,19 +36,20 @@ use Rattle.clashes.proofs.ListedLaws.{list-fits, list-known, first-listed}
 use Rattle.weights.specs.declared.delays.Delays.{Delays}
 use Rattle.weights.specs.Code.{Limited, coded}
 use Rattle.weights.specs.Delays.{delaysRead}
-use Rattle.starts.specs.Least.{Holds}
+use Rattle.weights.specs.Holds.{Holds}
 use Rattle.weights.proofs.CodeLaws.{plus-coded}
 use Rattle.weights.proofs.SoundLaws.{delays-length, delays-at, holds-read}
+use Rattle.times.proofs.EndsLaws.{windowAt, window-told}
 use Rattle.opening.proofs.WithinLaws.{within-tabled, within-sound}
 
 -- ---- delays
 
 -- a delay is kept, by its weight's code
-kept-code : (t u : ℕ) (w : ℤ) → Limited w → leb (t + coded w) (u + 30000) ≡ leZ w (subℕ u t)
+kept-code : (t u : ℕ) (w : ℤ) → Limited w → leb (t + 1000) (u + coded w) ≡ leZ w (subℕ u t)
 kept-code t u w h =
     same-test _ _
-    (λ e. leZ-iff w (subℕ u t) .1 (le-plus w t u (omega (arith, plus-coded t w h, leb-true (t + coded w) (u + 30000) e))))
-    (λ e. le-leb (t + coded w) (u + 30000) (omega (arith, plus-coded t w h, plus-le w t u (leZ-iff w (subℕ u t) .0 e))))
+    (λ e. leZ-iff w (subℕ u t) .1 (le-plus w t u (omega (arith, plus-coded t w h, leb-true (t + 1000) (u + coded w) e))))
+    (λ e. le-leb (t + 1000) (u + coded w) (omega (arith, plus-coded t w h, plus-le w t u (leZ-iff w (subℕ u t) .0 e))))
 
 -- a test of a mapped list
 all-map : {A B : Type 0} (f : B → Bool) (g : A → B) (xs : List A) → all f (map g xs) ≡ all (λ x. f (g x)) xs
@@ -57,7 +59,7 @@ all-map f g (x ∷ xs) = ap (λ (rest : Bool). elim (f (g x)) [ true ↦ rest | 
 
 -- the test of delay k, by the arrays
 unfoldable pub keptTest : List ℕ → List ℕ → List ℕ → List ℕ → ℕ → Bool
-keptTest us from to code k = leb (getD us (getD from k 0) 0 + getD code k 0) (getD us (getD to k 0) 0 + 30000)
+keptTest us from to code k = leb (getD us (getD from k 0) 0 + 1000) (getD us (getD to k 0) 0 + getD code k 0)
 
 -- a test of every number below m, of which k is asked: t is the answer
 module _ (f : ℕ → Bool) (k m : ℕ) (r : Bool) (left : allFrom f k m ≡ r) (h : k < m) (t : Bool) (told : t ≡ f k) where
@@ -95,6 +97,21 @@ module _ (b : Batch) (w : Within b) (d : Delays) (e : d ≡ delaysRead b) where
       ∙ sym (all-map (λ t. t) _ (count 0 (b .m))) ∙ ap (all (λ t. t)) (listed-cong _ _ (b .m) (kept-at us))
       ∙ all-map (λ t. t) (λ k. keeps us (delayOf b k)) (count 0 (b .m)) ∙ sym (all-map (keeps us) (delayOf b) (count 0 (b .m)))
 
+-- ---- ends
+
+-- the test of job i
+unfoldable pub endTest : Batch → List ℕ → ℕ → Bool
+endTest b us i = between (earliest b i) (start us i) (latest b i)
+
+pub ends-all : (b : Batch) (us : List ℕ) (n : ℕ) → n ≡ b .n → allFrom (endTest b us) 0 n ≡ keepsEnds b us
+unfolding keepsEnds endTest
+ends-all b us n e = rw e (all-start (endTest b us) (b .n))
+
+-- its ends are read out of the array
+pub end-told : (b : Batch) (us : List ℕ) (i : ℕ) (x : Bool) → i < length (b .windows) → x ≡ between (windowAt b i .earliest) (getD us i 0) (windowAt b i .latest) → x ≡ endTest b us i
+unfolding endTest earliest latest start
+end-told b us i x h e = e ∙ ap (λ (w : Window). between (w .earliest) (getD us i 0) (w .latest)) (window-told b i h)
+
 -- ---- clashes
 
 met-some : (o : Option ℕ) (k : ℕ) → metOf o ≡ found.Clash k → true ≡ isSome o
@@ -126,13 +143,32 @@ module _ (b : Batch) (w : Within b) (f : fewClashes b ≡ true) (l : Clashes) (e
     pub none-met : m ≡ found.Nothing → false ≡ isSome (firstMet (clashes b) us 0)
     none-met h = met-none _ (sym told ∙ h)
 
+-- ---- one test after the other
+
+module _ (b : Batch) (us : List ℕ) (x : Bool) (p : x ≡ all (keeps us) (delaysOf b)) where
+  abbrev unmet : Bool
+  unmet = not (isSome (firstMet (clashes b) us 0))
+
+  pub valid-delays : not x ≡ true → false ≡ valid b us
+  unfolding valid
+  valid-delays e = ap (λ (q : Bool). q && keepsEnds b us && unmet) (sym (fails p e))
+
+  module _ (e : not x ≡ false) (y : Bool) (q : y ≡ keepsEnds b us) where
+    pub valid-ends : y ≡ false → y ≡ valid b us
+    unfolding valid
+    valid-ends f = f ∙ ap₂ (λ (u v : Bool). u && v && unmet) (sym (passes p e)) (sym f ∙ q)
+
+    pub valid-clashes : y ≡ true → (z : Bool) → z ≡ isSome (firstMet (clashes b) us 0) → not z ≡ valid b us
+    unfolding valid
+    valid-clashes f z r = ap not r ∙ ap₂ (λ (u v : Bool). u && v && unmet) (sym (passes p e)) (sym f ∙ q)
+
 -- ---- starts that stand elsewhere: the same plan
 
 module _ (b : Batch) (us ts : List ℕ) (agree : (i : ℕ) → start us i ≡ start ts i) where
   pub valid-agree : valid b us ≡ valid b ts
-  unfolding valid keeps met
+  unfolding valid keeps keepsEnds met
   valid-agree =
-      ap₂ (λ (p q : Bool). p && q) (λ i. all (λ q. leZ (q .weight) (subℕ (agree (q .to) i) (agree (q .from) i))) (delaysOf b))
+      ap₂ (λ (p q : Bool). p && q) (λ i. all (λ q. leZ (q .weight) (subℕ (agree (q .to) i) (agree (q .from) i))) (delaysOf b) && all (λ j. between (earliest b j) (agree j i) (latest b j)) (count 0 (b .n)))
       (ap (λ (o : Option ℕ). not (isSome o)) (first-agree (clashes b) us ts 0 (λ c m. rw (agree (c .j), agree (c .i)))))
 
   pub latency-agree : latency b us ≡ latency b ts

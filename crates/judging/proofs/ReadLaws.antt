@@ -9,8 +9,8 @@ use lib.ListN.{length, drop}
 use lib.Dec.{eqb}
 use borrow.Author.Tests.{eq-eqb, ne-eqb}
 use Rattle.model.specs.Common.{isEmpty, Outcome, refuse, accept, _>>=_, require, given}
-use Rattle.model.specs.Line.{readLine}
-use Rattle.model.specs.Open.{at as byteOf, wide as wideOf, frameIs, due, readOne}
+use Rattle.model.specs.Line.{readLine, at as byteOf, wide as wideOf, frameIs}
+use Rattle.model.specs.Open.{due, readOne}
 use Rattle.model.specs.Judge.{claimHead, claimLine}
 use Rattle.model.proofs.BoolLaws.{and, and-false, passes, fails}
 use Rattle.model.proofs.OutcomeLaws.{accepts-require}

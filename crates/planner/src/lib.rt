@@ -10,7 +10,7 @@ ghost use Rattle.model.specs.Run.{ran};
 ghost use Rattle.model.specs.Text.{planText, batchText, written};
 ghost use Rattle.model.specs.Judge.{judged};
 
-// Opens a batch file: the fresh search of its batch, or a refusal, 1 to 10, and the blank record.
+// Opens a batch file: the fresh search of its batch, or a refusal, 1 to 10 or 20, and the blank record.
 pub fn open(file: &[u8]) -> Opened
     ensures { λ r. ⌜ r ≡ opened (now (file .entry)) ⌝ }
 {
@@ -40,7 +40,7 @@ pub fn write_batch(search: Search, buffer: &mut [u8]) -> Written
 }
 
 // Judges a plan text beside its batch file: passed where its lines name the batch's jobs in order, its starts are a valid plan and its latency is theirs; or a
-// refusal, the file's own, 1 to 10, or 17, 18 or 19.
+// refusal, the file's own, 1 to 10 or 20, or 17, 18 or 19.
 pub fn judge(file: &[u8], text: &[u8]) -> Judgement
     ensures { λ r. ⌜ r ≡ judged (now (file .entry)) (now (text .entry)) ⌝ }
 {

@@ -6,20 +6,20 @@ use model::Turn;
 ghost use mathlib.Core.Path.{_≡_};
 ghost use Rattle.planner_c.specs.Records.{bestIn, foundOf, latencyOf, flagOf, searchIn, recordOf};
 
-// `found` and `ended` are 0 for no and anything else for yes; without a best, `latency` and `starts` are not looked at.
+// `found` and `ended` are 0 for no and anything else for yes; without a best, `latency` and `starts` are not looked at. No byte of it is padding.
 #[repr(C)]
 pub struct Record {
     pub total: u32,
     pub latency: u16,
-    pub found: u16,
-    pub ended: u16,
+    pub found: u8,
+    pub ended: u8,
     pub starts: [u16; 24],
     pub batch: Batch,
     pub path: [Turn; 1024],
 }
 
 // Best as the two numbers say.
-fn best_in(found: u16, latency: u16) -> Best
+fn best_in(found: u8, latency: u16) -> Best
     ensures { λ r. ⌜ r ≡ bestIn found latency ⌝ }
 {
     if found == 0 {
@@ -29,7 +29,7 @@ fn best_in(found: u16, latency: u16) -> Best
 }
 
 // Whether there is a best.
-fn found_of(best: Best) -> u16
+fn found_of(best: Best) -> u8
     ensures { λ r. ⌜ r ≡ foundOf best ⌝ }
 {
     match best {
@@ -49,7 +49,7 @@ fn latency_of(best: Best) -> u16
 }
 
 // 1 for yes, 0 for no.
-fn flag_of(yes: bool) -> u16
+fn flag_of(yes: bool) -> u8
     ensures { λ r. ⌜ r ≡ flagOf yes ⌝ }
 {
     if yes { 1 } else { 0 }

@@ -6,11 +6,14 @@ use native.Mathlib.Omega.{arith}
 use lib.ListN.{length, getD}
 use Rattle.model.specs.declared.Delay.{Delay}
 use Rattle.model.specs.declared.Job.{Job}
+use Rattle.model.specs.declared.Window.{Window}
 use Rattle.model.specs.Common.{joined}
 use Rattle.model.specs.Line.{digitsOf, two, four}
+use Rattle.model.specs.Window.{windowText}
 use Rattle.model.specs.Format.{unsigned, headerLine, masksOf, jobLine, delayLine}
 use Rattle.lines.proofs.Puts.{digits-length, line-length}
 use Rattle.writing.specs.Lines.{headLine, startLine, noPlanLine}
+use Rattle.writing.specs.Windows.{windowAs}
 use Rattle.writing.proofs.Pieces.{pieces-even, joined-pieces}
 
 -- a number of two bytes
@@ -19,9 +22,9 @@ unfolding two
 two-length v = digits-length (two v)
 
 -- 4 bytes
-pub header-length : (n m : ℕ) → length (headerLine n m) ≡ 9
+pub header-length : (edition n m : ℕ) → length (headerLine edition n m) ≡ 9
 unfolding headerLine
-header-length n m = line-length (0xA0 ∷ 0x01 ∷ n ∷ m ∷ [])
+header-length edition n m = line-length (0xA0 ∷ edition ∷ n ∷ m ∷ [])
 
 -- p masks of two bytes
 pub masks-length : (job : Job) → length (joined two (masksOf job)) ≡ 2 * job .ticks
@@ -40,6 +43,11 @@ job-length job =
 pub delay-length : (q : Delay) → length (delayLine q) ≡ 11
 unfolding delayLine two
 delay-length q = line-length (0xA2 ∷ q .from ∷ q .to ∷ two (unsigned (q .weight)))
+
+-- 6 bytes
+pub window-length : (job : ℕ) (w : Window) → length (windowAs job w) ≡ 13
+unfolding windowAs windowText two
+window-length job w = line-length (0xA3 ∷ job ∷ (two (w .earliest) ++ two (w .latest)))
 
 -- 9 bytes
 pub head-length : (n latency total : ℕ) → length (headLine n latency total) ≡ 19

@@ -1,23 +1,29 @@
--- The texts that the loops put, as pieces: the masks of a job, the job lines, the delay lines, and the start lines.
+-- The texts that the loops put, as pieces: the masks of a job, the job lines, the delay lines, the window lines, and the start lines.
 use Prim.Native.Nat.{ℕ, _+_, _*_, _≤_}
 use mathlib.Core.Path.{_≡_, refl, ap, sym, _∙_}
-use mathlib.Core.List.{List, [], _++_, append-assoc}
+use mathlib.Core.Bool.{Bool, true, false, not}
+use mathlib.Core.List.{List, [], _∷_, _++_, map}
 use native.Mathlib.Omega.{arith}
 use lib.ListN.{length, getD, length-append}
+use lib.Dec.{eqb}
+use borrow.Author.Tests.{eq-eqb, ne-eqb}
 use Rattle.model.specs.declared.Delay.{Delay}
 use Rattle.model.specs.declared.Job.{Job}
 use Rattle.model.specs.declared.Batch.{Batch}
-use Rattle.model.specs.Common.{count, joined}
-use Rattle.model.specs.Batch.{blankJob, jobOf, ticks, delayOf, delaysOf}
+use Rattle.model.specs.declared.Window.{Window}
+use Rattle.model.specs.Common.{if_then_else_, count, keep, joined}
+use Rattle.model.specs.Batch.{blankJob, blankWindow, jobOf, ticks, delayOf, delaysOf, windowOf, lined, earliest, latest}
 use Rattle.model.specs.Plan.{start}
 use Rattle.model.specs.Line.{digitsOf, two}
-use Rattle.model.specs.Format.{headerLine, masksOf, jobLine, jobsOf, delayLine, batchFile}
+use Rattle.model.specs.Window.{windowText, windowLine, windowLines}
+use Rattle.model.specs.Format.{headerLine, masksOf, jobLine, jobsOf, delayLine, furtherOf, furtherText, batchFile}
 use Rattle.model.proofs.SeqLaws.{getD-default}
 use Rattle.lines.specs.Write.{overwritten}
-use Rattle.lines.proofs.Puts.{put-then}
+use Rattle.lines.proofs.Puts.{put-nothing, put-then}
 use Rattle.writing.specs.Lines.{headLine, startLine, startLines, foundLines}
+use Rattle.writing.specs.Windows.{windowAs, windowPiece}
 use Rattle.writing.proofs.Pieces.{pieces, pieces-even, joined-pieces, digits-pieces}
-use Rattle.writing.proofs.Lengths.{two-length, header-length, job-length, delay-length, head-length, start-length}
+use Rattle.writing.proofs.Lengths.{two-length, header-length, job-length, delay-length, window-length, head-length, start-length}
 
 -- ---- masks
 
@@ -62,30 +68,88 @@ read-length b i = ap length (sym (read-line b i)) ∙ job-length (readJob b i)
 pub delays-size : (q : ℕ → Delay) (k : ℕ) → length (pieces (λ i. delayLine (q i)) k) ≡ 11 * k
 delays-size q k = pieces-even (λ i. delayLine (q i)) 11 (λ i. delay-length (q i)) k
 
+pub delays-length : (b : Batch) → length (joined delayLine (delaysOf b)) ≡ 11 * b .m
+unfolding delaysOf
+delays-length b = ap length (joined-pieces delayLine (delayOf b) (b .m)) ∙ delays-size (delayOf b) (b .m)
+
+-- ---- windows
+
+abbrev pub linePiece : Batch → ℕ → List ℕ
+linePiece b i = windowPiece i (windowOf b i)
+
+pub windows-text : (b : Batch) → joined windowText (windowLines b) ≡ pieces (linePiece b) (b .n)
+unfolding windowLines windowLine lined earliest latest windowPiece windowAs keep joined pieces if_then_else_
+windows-text b = go (count 0 (b .n))
+  where
+    go : (xs : List ℕ) → joined windowText (map (windowLine b) (keep (lined b) xs)) ≡ joined (linePiece b) xs
+    go [] = refl
+    go (x ∷ xs) = step (lined b x) (go xs)
+      where
+        step : (t : Bool) → joined windowText (map (windowLine b) (keep (lined b) xs)) ≡ joined (linePiece b) xs
+            → joined windowText (map (windowLine b) (if t then x ∷ keep (lined b) xs else keep (lined b) xs)) ≡ (if t then windowAs x (windowOf b x) else []) ++ joined (linePiece b) xs
+        step true e = ap (λ (l : List ℕ). windowAs x (windowOf b x) ++ l) e
+        step false e = e
+
+-- a window as the code reads it: past the array's end it has no line
+abbrev pub readWindow : Batch → ℕ → Window
+readWindow b i = getD (b .windows) i (record { lined = 0; earliest = 0; latest = 0 })
+
+pub read-window : (b : Batch) (i j : ℕ) → windowPiece j (readWindow b i) ≡ windowPiece j (windowOf b i)
+unfolding windowOf blankWindow windowPiece if_then_else_
+read-window b i j = getD-default (windowPiece j) (b .windows) i (record { lined = 0; earliest = 0; latest = 0 }) blankWindow refl
+
+-- a line is as long for each job
+pub piece-length : (i j : ℕ) (w : Window) → length (windowPiece i w) ≡ length (windowPiece j w)
+unfolding windowPiece if_then_else_
+piece-length i j w = go (not (eqb (w .lined) 0))
+  where
+    go : (t : Bool) → length (if t then windowAs i w else []) ≡ length (if t then windowAs j w else [])
+    go true = window-length i w ∙ sym (window-length j w)
+    go false = refl
+
+-- with a line and without
+pub piece-lined : (i : ℕ) (w : Window) → (w .lined ≡ 0 → ⊥) → windowPiece i w ≡ windowAs i w
+unfolding windowPiece if_then_else_
+piece-lined i w h = rw (ne-eqb (w .lined) 0 h)
+
+pub piece-none : (i : ℕ) (w : Window) → w .lined ≡ 0 → windowPiece i w ≡ []
+unfolding windowPiece if_then_else_
+piece-none i w h = rw (eq-eqb (w .lined) 0 h)
+
 -- ---- the batch text
 
-pub batch-length : (b : Batch) → length (batchFile b) ≡ 9 + (length (joined jobLine (jobsOf b)) + 11 * b .m)
-unfolding batchFile delaysOf
+pub batch-length : (b : Batch) → length (batchFile b) ≡ 9 + (length (joined jobLine (jobsOf b)) + (11 * b .m + length (joined windowText (windowLines b))))
+unfolding batchFile furtherText furtherOf
 batch-length b =
-    let head = headerLine (b .n) (b .m) in
+    let head = headerLine (b .edition) (b .n) (b .m) in
     let jobs = joined jobLine (jobsOf b) in
     let delays = joined delayLine (delaysOf b) in
+    let windows = joined windowText (windowLines b) in
     omega (
       arith,
-      length-append head (jobs ++ delays),
-      length-append jobs delays,
-      header-length (b .n) (b .m),
-      ap length (joined-pieces delayLine (delayOf b) (b .m)),
-      delays-size (delayOf b) (b .m),
+      length-append head (jobs ++ (delays ++ windows)),
+      length-append jobs (delays ++ windows),
+      length-append delays windows,
+      header-length (b .edition) (b .n) (b .m),
+      delays-length b,
     )
 
--- three texts at the front, one behind the other, as three calls leave them
-pub put-three : (buffer s t u : List ℕ) {first second third : List ℕ} {next last : ℕ} → length s + length t ≤ length buffer → next ≡ length s → last ≡ length s + length t → first ≡ overwritten buffer 0 s → second ≡ overwritten first next t → third ≡ overwritten second last u → third ≡ overwritten buffer 0 (s ++ (t ++ u))
-put-three buffer s t u fits p q e f g =
-    put-then buffer 0 (s ++ t) u (omega (arith, length-append s t)) (omega (arith, length-append s t))
-    (put-then buffer 0 s t (omega arith) (omega arith) e f)
-    g
-    ∙ ap (overwritten buffer 0) (append-assoc s t u)
+-- texts one behind the other from the front of the buffer, as calls leave them: the next place, and the buffer
+pub record Front (buffer text : List ℕ) (next : ℕ) (after : List ℕ) : Type 0 where
+  pub place : next ≡ length text
+  pub buffer-is : after ≡ overwritten buffer 0 text
+
+-- none yet
+pub front-none : (buffer : List ℕ) → Front buffer [] 0 buffer
+front-none buffer = record { place = refl; buffer-is = sym (put-nothing buffer 0) }
+
+-- one more
+pub front-more : {buffer text after last : List ℕ} {next place size : ℕ} (more : List ℕ) → Front buffer text next after → length text + length more ≤ length buffer → length more ≡ size → place ≡ next + size → last ≡ overwritten after next more → Front buffer (text ++ more) place last
+front-more {buffer} {text} more f fits s p e =
+    record {
+      place = omega (arith, length-append text more, f .place);
+      buffer-is = put-then buffer 0 text more (omega arith) (omega (arith, f .place)) (f .buffer-is) e;
+    }
 
 -- ---- starts
 

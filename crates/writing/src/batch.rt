@@ -1,5 +1,5 @@
-// The batch text: the header, the n job lines, the m delay lines, each put where the one before it ends. Its length is worked out
-// first, so that nothing is put into a buffer that is too short.
+// The batch text: the header, the n job lines, the m delay lines, the further lines kind after kind, each put where the one before it
+// ends. Its length is worked out first, so that nothing is put into a buffer that is too short.
 ghost use mathlib.Core.Path.{_≡_};
 ghost use Prim.Native.Nat.{_+_, _*_, _≤_};
 ghost use lib.ListN.{length};
@@ -13,11 +13,14 @@ ghost use Rattle.writing.specs.Bounded.{Bounded};
 use crate::frame::put_delay;
 use crate::frame::put_header;
 use crate::frame::put_pair;
+use crate::windows::put_windows;
+use crate::windows::windows_length;
 use delay_array::array_columns;
 use delay_list::delay_at;
 use model::Batch;
 use model::Job;
 use model::wide;
+use model::wide16;
 
 // The whole batch text at the buffer's front.
 pub fn put_batch(buffer: &mut [u8], batch: Batch) -> usize
@@ -25,9 +28,10 @@ pub fn put_batch(buffer: &mut [u8], batch: Batch) -> usize
     requires { ⌜ length (batchFile batch) ≤ length (now buffer) ⌝ }
     ensures { λ r. ⌜ (r ≡ length (batchFile batch)) × (now (buffer .exit) ≡ overwritten (now (buffer .entry)) 0 (batchFile batch)) ⌝ }
 {
-    let jobs = put_header(buffer, 0, batch.n, batch.m);
+    let jobs = put_header(buffer, 0, batch.edition as u8, batch.n, batch.m);
     let delays = put_jobs(buffer, jobs, batch);
-    put_delays(buffer, delays, batch)
+    let windows = put_delays(buffer, delays, batch);
+    put_windows(buffer, windows, batch)
 }
 
 // The number of its bytes: two digits a byte, and a 0A a line.
@@ -37,11 +41,11 @@ pub fn batch_length(batch: Batch) -> usize
 {
     let n = wide(batch.n);
     let m = wide(batch.m);
-    let mut size: usize = 9 + 11 * m;
+    let mut size: usize = 9 + 11 * m + windows_length(batch);
     let mut i: usize = 0;
     while i < n {
         let job = batch.jobs[i];
-        size = size + 4 * wide(job.ticks) + 5;
+        size = size + 4 * wide16(job.ticks) + 5;
         i = i + 1;
     }
     size
@@ -69,7 +73,7 @@ fn put_job(buffer: &mut [u8], at: usize, job: Job) -> usize
     requires { ⌜ (job .ticks ≤ mostTicks) × (at + (4 * job .ticks + 5) ≤ length (now buffer)) ⌝ }
     ensures { λ r. ⌜ (r ≡ at + (4 * job .ticks + 5)) × (now (buffer .exit) ≡ overwritten (now (buffer .entry)) at (jobLine job)) ⌝ }
 {
-    let masks = put_pair(buffer, at, 0xA1, job.ticks);
+    let masks = put_pair(buffer, at, 0xA1, job.ticks as u8);
     let end = put_masks(buffer, masks, job);
     lines::put_end(buffer, end)
 }
@@ -79,7 +83,7 @@ fn put_masks(buffer: &mut [u8], at: usize, job: Job) -> usize
     requires { ⌜ (job .ticks ≤ mostTicks) × (at + 4 * job .ticks ≤ length (now buffer)) ⌝ }
     ensures { λ r. ⌜ (r ≡ at + 4 * job .ticks) × (now (buffer .exit) ≡ overwritten (now (buffer .entry)) at (digitsOf (joined two (masksOf job)))) ⌝ }
 {
-    let ticks = wide(job.ticks);
+    let ticks = wide16(job.ticks);
     let mut next = at;
     let mut a: usize = 0;
     while a < ticks {

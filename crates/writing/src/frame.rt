@@ -1,4 +1,4 @@
-// The lines of both texts but for the job line, which has a loop. Each function puts one line at a place and answers the next place.
+// The lines of both texts but for the job line, which has a loop, and the further lines. Each function puts one line at a place and answers the next place.
 ghost use mathlib.Core.Path.{_≡_};
 ghost use mathlib.Core.List.{[], _∷_};
 ghost use Prim.Native.Nat.{_+_, _≤_};
@@ -20,11 +20,11 @@ pub fn put_pair(buffer: &mut [u8], at: usize, first: u8, second: u8) -> usize
 }
 
 // The header of a batch text.
-pub fn put_header(buffer: &mut [u8], at: usize, n: u8, m: u8) -> usize
+pub fn put_header(buffer: &mut [u8], at: usize, edition: u8, n: u8, m: u8) -> usize
     requires { ⌜ at + 9 ≤ length (now buffer) ⌝ }
-    ensures { λ r. ⌜ (r ≡ at + 9) × (now (buffer .exit) ≡ overwritten (now (buffer .entry)) at (headerLine n m)) ⌝ }
+    ensures { λ r. ⌜ (r ≡ at + 9) × (now (buffer .exit) ≡ overwritten (now (buffer .entry)) at (headerLine edition n m)) ⌝ }
 {
-    let counts = put_pair(buffer, at, 0xA0, 0x01);
+    let counts = put_pair(buffer, at, 0xA0, edition);
     let end = put_pair(buffer, counts, n, m);
     lines::put_end(buffer, end)
 }

@@ -6,6 +6,8 @@ mod frame;
 mod number;
 mod plan;
 mod plan_text;
+mod window;
+mod windows;
 
 pub use batch_text::write_batch;
 pub use plan_text::write_plan;

@@ -19,23 +19,28 @@ pub fn batch_files(folder: &str) -> Vec<(String, Vec<u8>)> {
     files
 }
 
-/// Jobs as lists of masks, delays as (from, to, weight).
-#[derive(Clone, Debug, PartialEq, Eq)]
+/// Jobs as lists of masks, delays as (from, to, weight), windows as (job, earliest, latest); none are there in edition 01.
+#[derive(Clone, Debug, Default, PartialEq, Eq)]
 pub struct Batch {
     pub jobs: Vec<Vec<u16>>,
     pub delays: Vec<(usize, usize, i16)>,
+    pub windows: Option<Vec<(usize, u16, u16)>>,
 }
 
 impl Batch {
     /// The batch file by the format's text.
     pub fn file(&self) -> Vec<u8> {
-        let mut text = format!("A001{:02X}{:02X}\n", self.jobs.len(), self.delays.len());
+        let edition = if self.windows.is_some() { 2 } else { 1 };
+        let mut text = format!("A0{edition:02X}{:02X}{:02X}\n", self.jobs.len(), self.delays.len());
         for masks in &self.jobs {
             let digits: String = masks.iter().map(|mask| format!("{mask:04X}")).collect();
             text += &format!("A1{:02X}{digits}\n", masks.len());
         }
         for (from, to, weight) in &self.delays {
             text += &format!("A2{from:02X}{to:02X}{weight:04X}\n");
+        }
+        for (job, earliest, latest) in self.windows.iter().flatten() {
+            text += &format!("A3{job:02X}{earliest:04X}{latest:04X}\n");
         }
         text.into_bytes()
     }
@@ -44,9 +49,11 @@ impl Batch {
     pub fn of(file: &[u8]) -> Batch {
         let text = std::str::from_utf8(file).expect("an accepted file is plain text");
         let number = |line: &str, from: usize, to: usize| u16::from_str_radix(&line[from..to], 16).unwrap();
-        let mut batch = Batch { jobs: Vec::new(), delays: Vec::new() };
+        let mut batch = Batch::default();
         for line in text.lines() {
             match &line[..2] {
+                "A0" => batch.windows = (&line[2..4] == "02").then(Vec::new),
+                "A3" => batch.windows.as_mut().unwrap().push((number(line, 2, 4).into(), number(line, 4, 8), number(line, 8, 12))),
                 "A1" => batch.jobs.push((4..line.len()).step_by(4).map(|k| number(line, k, k + 4)).collect()),
                 "A2" => batch.delays.push((number(line, 2, 4).into(), number(line, 4, 6).into(), number(line, 6, 10) as i16)),
                 _ => (),
@@ -64,7 +71,7 @@ impl Batch {
         starts.iter().zip(&self.jobs).map(finish).max().unwrap_or(0)
     }
 
-    /// What is wrong with a plan: a delay not kept, a station held twice in a tick, another latency.
+    /// What is wrong with a plan: a delay not kept, a start outside its window, a station held twice in a tick, another latency.
     pub fn fault(&self, starts: &[u16], latency: u16) -> Option<String> {
         if starts.len() != self.jobs.len() {
             return Some(format!("{} starts for {} jobs", starts.len(), self.jobs.len()));
@@ -72,6 +79,11 @@ impl Batch {
         for &(from, to, weight) in &self.delays {
             if i32::from(starts[to]) - i32::from(starts[from]) < i32::from(weight) {
                 return Some(format!("the delay from {from} to {to} by {weight} is not kept"));
+            }
+        }
+        for &(job, earliest, latest) in self.windows.iter().flatten() {
+            if !(earliest..=latest).contains(&starts[job]) {
+                return Some(format!("job {job} starts at {}, outside {earliest} to {latest}", starts[job]));
             }
         }
         let mut held = HashSet::new();
@@ -116,6 +128,18 @@ impl Random {
             let to = (from + 1 + self.below(n - 1)) % n;
             (from as usize, to as usize, self.below(9) as i16 - 5)
         });
-        Batch { delays: delays.collect(), jobs }
+        Batch { delays: delays.collect(), jobs, windows: None }
+    }
+
+    /// Such a batch with windows for some jobs or all, of edition 02.
+    pub fn windowed(&mut self, most: u64) -> Batch {
+        let batch = self.batch(most);
+        let chosen: Vec<usize> = (0..batch.jobs.len()).filter(|_| self.below(2) == 0).collect();
+        let windows = chosen.into_iter().map(|job| {
+            let earliest = [0, self.below(4), self.below(12)][self.below(3) as usize];
+            let latest = [65535, earliest + self.below(4), earliest + self.below(12)][self.below(3) as usize];
+            (job, earliest as u16, latest as u16)
+        });
+        Batch { windows: Some(windows.collect()), ..batch }
     }
 }

@@ -1,4 +1,4 @@
--- `plan::is_kept` adds the code and 30,000 to starts of any two bytes, in numbers that hold the sums.
+-- `plan::is_kept` adds 1,000 and the code to starts of any two bytes, in numbers that hold the sums.
 use borrow.Author.Needs.{needs}
 use Rattle.judging.proofs.plan.is_kept.Statement.{statement}
 use Rattle.judging.proofs.plan.is_kept.Tie as tie
@@ -14,8 +14,8 @@ is-kept-spec =
     (λ c. search needs)
     (λ c. search needs)
     (λ c κs. search needs)
-    (λ c κs. search needs)
     (λ c. search needs)
+    (λ c κs. search needs)
     (λ c κs. search needs)
     (λ c. search needs)
     (λ c.

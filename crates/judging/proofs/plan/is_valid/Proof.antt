@@ -1,17 +1,20 @@
--- `plan::is_valid` asks the clashes only where the delays are kept.
-use mathlib.Core.Path.{ap, _∙_}
-use mathlib.Core.Bool.{not}
-use Rattle.model.specs.Judge.{valid}
-use Rattle.model.proofs.BoolLaws.{and-then, and-else}
+-- `plan::is_valid` asks the ends only where the delays are kept, and the clashes only where the ends are.
+use Rattle.judging.proofs.PlanLaws.{valid-delays, valid-ends, valid-clashes}
 use Rattle.judging.proofs.plan.is_valid.Statement.{statement}
 use Rattle.judging.proofs.plan.is_valid.Tie as tie
 
 pub is-valid-spec : {M : Type 1} → statement M
-unfolding valid
 is-valid-spec =
     tie.close
     (tie.spec
     (λ c κs. c .pre .0)
-    (λ c κs. c .before .before .pre)
-    (λ c. ap not (c .meets-clash .ensures) ∙ and-then _ _ _ (c .before .before .keeps-delays .ensures) (c .before .if1 .taken))
-    (λ c. and-else _ _ _ (c .before .keeps-delays .ensures) (c .if1 .left)))
+    (λ c. valid-delays _ _ _ (c .before .keeps-delays .ensures) (c .if1 .taken))
+    (λ c κs. c .before .before .pre .0)
+    (λ c κs. c .before .before .before .before .pre)
+    (λ c.
+    let ends = c .before in
+    let delays = ends .before .before in
+    valid-clashes _ _ _ (delays .before .keeps-delays .ensures) (delays .if1 .left) _ (ends .before .keeps-ends .ensures) (ends .if2 .taken) _ (c .meets-clash .ensures))
+    (λ c.
+    let delays = c .before .before in
+    valid-ends _ _ _ (delays .before .keeps-delays .ensures) (delays .if1 .left) _ (c .before .keeps-ends .ensures) (c .if2 .left)))

@@ -19,20 +19,20 @@ window-frame-spec =
     (λ c before lowest.
     let b = c .before .before .before .before in
     window-job _ _ _ _ (b .before .frame-is .ensures) before lowest (b .if1 .left) _ _ _ (c .before .before .before .frame-byte .ensures) (c .before .before .frame-wide .ensures)
-    (c .before .frame-wide2 .ensures) (c .if2 .taken))
+    (c .before .frame-wide2 .ensures) (omega arith))
     (λ c before lowest.
     let d = c .before .before in
     let b = d .before .before .before in
     window-rise _ _ _ _ (b .before .frame-is .ensures) before lowest (b .if1 .left) _ _ _ (d .before .before .frame-byte .ensures) (d .before .frame-wide .ensures)
-    (d .frame-wide2 .ensures) (c .if3 .taken))
+    (d .frame-wide2 .ensures) (omega arith))
     (λ c κs. search needs)
     (λ c before lowest.
     let d = c .before .before .before .before in
     let b = d .before .before .before in
     window-ends _ _ _ _ (b .before .frame-is .ensures) before lowest (b .if1 .left) _ _ _ (d .before .before .frame-byte .ensures) (d .before .frame-wide .ensures)
-    (d .frame-wide2 .ensures) (c .before .before .before .if2 .left) (c .before .before .if3 .left) _ (c .before .ends-ok .ensures) (c .if4 .taken))
+    (d .frame-wide2 .ensures) (omega arith) (omega arith) _ (c .before .ends-ok .ensures) (c .if4 .taken))
     (λ c before lowest.
     let d = c .before .before .before .before in
     let b = d .before .before .before in
     window-read _ _ _ _ (b .before .frame-is .ensures) before lowest (b .if1 .left) _ _ _ (d .before .before .frame-byte .ensures) (d .before .frame-wide .ensures)
-    (d .frame-wide2 .ensures) (c .before .before .before .if2 .left) (c .before .before .if3 .left) _ (c .before .ends-ok .ensures) (c .if4 .left)))
+    (d .frame-wide2 .ensures) (omega arith) (omega arith) _ (c .before .ends-ok .ensures) (c .if4 .left)))

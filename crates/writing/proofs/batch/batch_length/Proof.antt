@@ -1,17 +1,18 @@
--- Each turn of `batch_length` adds the length of one job line.
+-- Each turn of `batch_length` adds the length of one job line to that of the other lines.
 use Prim.Native.Nat.{_≤_, _+_, _*_, _-_}
 use mathlib.Core.Path.{_≡_, ap, sym, _∙_}
 use native.Mathlib.Omega.{arith}
 use borrow.Author.Needs.{needs}
 use lib.ListN.{length}
 use Rattle.model.specs.Common.{count, joined}
+use Rattle.model.specs.Window.{windowText, windowLines}
 use Rattle.writing.proofs.Pieces.{pieces, pieces-length}
 use Rattle.writing.proofs.Texts.{jobPiece, jobs-text, read-length, batch-length}
 use Rattle.writing.proofs.batch.batch_length.Statement.{statement}
 use Rattle.writing.proofs.batch.batch_length.Tie as tie
 
 abbrev Inv-loop : tie.InvT-loop
-Inv-loop batch n m size₀ i₀ size i = (i ≤ n) × (size ≡ 9 + 11 * m + length (pieces (jobPiece batch) i)) × (size ≤ 3000 + 1025 * i)
+Inv-loop batch n m size₀ i₀ size i = (i ≤ n) × (size ≡ 9 + 11 * m + length (joined windowText (windowLines batch)) + length (pieces (jobPiece batch) i)) × (size ≤ 4000 + 262145 * i)
 
 abbrev μ-loop : tie.MeasureT-loop
 μ-loop batch n m size₀ i₀ size i = n - i
@@ -28,6 +29,12 @@ mul-size c = search needs
 add-size : tie.Need-add-size Inv-loop μ-loop
 add-size c = search needs
 
+windows-length-requires : tie.Need-windows-length-requires Inv-loop μ-loop
+windows-length-requires c κs = c .before .before .pre .jobs
+
+add-size-2 : tie.Need-add-size-2 Inv-loop μ-loop
+add-size-2 c = omega arith
+
 loop-holds : tie.Need-loop-holds Inv-loop μ-loop
 unfolding pieces joined count
 loop-holds c = (search needs, omega arith, omega arith)
@@ -38,17 +45,17 @@ mul-job c = search needs
 element-copy-out-job : tie.Need-element-copy-out-job Inv-loop μ-loop
 element-copy-out-job c = search needs
 
-wide-requires-3 : tie.Need-wide-requires-3 Inv-loop μ-loop
-wide-requires-3 c κs = search needs
+wide16-requires : tie.Need-wide16-requires Inv-loop μ-loop
+wide16-requires c κs = search needs
 
 mul-size-2 : tie.Need-mul-size-2 Inv-loop μ-loop
 mul-size-2 c = search needs
 
-add-size-2 : tie.Need-add-size-2 Inv-loop μ-loop
-add-size-2 c = search needs
-
 add-size-3 : tie.Need-add-size-3 Inv-loop μ-loop
 add-size-3 c = search needs
+
+add-size-4 : tie.Need-add-size-4 Inv-loop μ-loop
+add-size-4 c = search needs
 
 add-i : tie.Need-add-i Inv-loop μ-loop
 add-i c = search needs
@@ -58,13 +65,13 @@ loop-less c = search needs
 
 loop-again : tie.Need-loop-again Inv-loop μ-loop
 loop-again c =
-    let batch = c .before .before .before .before .before .before .args .t1 in
+    let batch = c .before .before .before .before .before .before .before .args .t1 in
     let i = c .before .before .before .loop .i in
     (search needs, omega (arith, pieces-length (jobPiece batch) i, read-length batch i), omega arith)
 
 returns : tie.Need-returns Inv-loop μ-loop
 returns c =
-    let batch = c .before .before .before .before .args .t1 in
+    let batch = c .before .before .before .before .before .args .t1 in
     let all : c .before .loop .i ≡ batch .n = omega arith in
     omega (arith, batch-length batch, ap length (jobs-text batch ∙ ap (pieces (jobPiece batch)) (sym all)))
 
@@ -78,13 +85,15 @@ batch-length-spec =
     wide-requires-2
     mul-size
     add-size
+    windows-length-requires
+    add-size-2
     loop-holds
     mul-job
     element-copy-out-job
-    wide-requires-3
+    wide16-requires
     mul-size-2
-    add-size-2
     add-size-3
+    add-size-4
     add-i
     loop-less
     loop-again

@@ -1,42 +1,51 @@
--- `put_batch` puts the three parts of the text one behind the other.
+-- `put_batch` puts the parts of the text one behind the other.
+use mathlib.Core.Path.{refl, ap, _∙_}
+use mathlib.Core.List.{_++_, append-assoc}
 use native.Mathlib.Omega.{arith}
 use borrow.Author.Needs.{needs}
-use Rattle.model.specs.Format.{batchFile}
+use Rattle.lines.specs.Write.{overwritten}
+use lib.ListN.{length-append}
+use Rattle.model.specs.Common.{joined}
+use Rattle.model.specs.Batch.{delaysOf}
+use Rattle.model.specs.Window.{windowText, windowLines}
+use Rattle.model.specs.Format.{headerLine, jobLine, jobsOf, delayLine, furtherOf, furtherText, batchFile}
 use Rattle.writing.proofs.Lengths.{header-length}
-use Rattle.writing.proofs.Texts.{batch-length, put-three}
+use Rattle.writing.proofs.Texts.{delays-length, batch-length, front-none, front-more}
 use Rattle.writing.proofs.batch.put_batch.Statement.{statement}
 use Rattle.writing.proofs.batch.put_batch.Tie as tie
 
-put-header-requires : tie.Need-put-header-requires
-put-header-requires c κs = omega (arith, batch-length (c .before .before .args .batch))
-
-put-jobs-requires : tie.Need-put-jobs-requires
-put-jobs-requires c κs =
-    let start = c .before .before .before .before .before .before in
-    (start .pre .0, omega (arith, batch-length (start .args .batch)))
-
-put-delays-requires : tie.Need-put-delays-requires
-put-delays-requires c κs =
-    let start = c .before .before .before .before .before .before .before .before .before .before in
-    (start .pre .0 .delays, omega (arith, batch-length (start .args .batch)))
-
-same-length : tie.Need-same-length
-same-length c = search needs
-
-returns : tie.Need-returns
-unfolding batchFile
-returns c =
-    let batch = c .before .before .before .before .before .before .before .before .before .before .before .before .before .args .batch in
-    let first = c .before .before .before .before .before .before .before .before .before .before .put-header .ensures in
-    let second = c .before .before .before .before .before .before .put-jobs .ensures in
-    let third = c .before .before .put-delays .ensures in
-    let size = batch-length batch in
-    let head = header-length (batch .n) (batch .m) in (
-      omega arith,
-      put-three _ _ _ _ (omega arith) (omega arith) (omega arith) (first .1) (second .1) (third .1),
-    )
-
 pub put-batch-spec : {M : Type 1} → statement M
+unfolding batchFile furtherText furtherOf
 put-batch-spec =
     tie.close
-    (tie.spec put-header-requires put-jobs-requires put-delays-requires same-length returns)
+    (tie.spec
+    (λ c. search needs)
+    (λ c κs. omega (arith, batch-length (c .before .before .before .args .batch)))
+    (λ c κs.
+    let start = c .before .before .before .before .before .before .before in
+    (start .pre .0, omega (arith, batch-length (start .args .batch))))
+    (λ c κs.
+    let start = c .before .before .before .before .before .before .before .before .before .before .before in
+    (start .pre .0 .delays, omega (arith, batch-length (start .args .batch))))
+    (λ c κs.
+    let start = c .before .before .before .before .before .before .before .before .before .before .before .before .before .before .before in
+    (start .pre .0 .jobs, omega (arith, batch-length (start .args .batch))))
+    (λ c. search needs)
+    (λ c.
+    let b = c .before .before .before .before .before .before .before .before .before .before .before .before .before .before .before .before .before .before .args .batch in
+    let first = c .before .before .before .before .before .before .before .before .before .before .before .before .before .before .put-header .ensures in
+    let second = c .before .before .before .before .before .before .before .before .before .before .put-jobs .ensures in
+    let third = c .before .before .before .before .before .before .put-delays .ensures in
+    let fourth = c .before .before .put-windows .ensures in
+    let size = batch-length b in
+    let length-head = header-length (b .edition) (b .n) (b .m) in
+    let length-delays = delays-length b in
+    let head = headerLine (b .edition) (b .n) (b .m) in
+    let jobs = joined jobLine (jobsOf b) in
+    let delays = joined delayLine (delaysOf b) in
+    let windows = joined windowText (windowLines b) in
+    let one = front-more head (front-none _) (omega arith) length-head (first .0) (first .1) in
+    let two = front-more jobs one (omega arith) refl (second .0) (second .1) in
+    let three = front-more delays two (omega (arith, length-append head jobs)) length-delays (third .0) (third .1) in
+    let four = front-more windows three (omega (arith, length-append head jobs, length-append (head ++ jobs) delays)) refl (fourth .0) (fourth .1) in
+    (omega arith, four .buffer-is ∙ ap (overwritten _ 0) (append-assoc (head ++ jobs) delays windows ∙ append-assoc head jobs (delays ++ windows)))))

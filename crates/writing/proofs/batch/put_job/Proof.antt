@@ -7,6 +7,9 @@ use Rattle.writing.proofs.Lengths.{masks-length}
 use Rattle.writing.proofs.batch.put_job.Statement.{statement}
 use Rattle.writing.proofs.batch.put_job.Tie as tie
 
+cast-put-pair : tie.Need-cast-put-pair
+cast-put-pair c = search needs
+
 put-pair-requires : tie.Need-put-pair-requires
 put-pair-requires c κs = search needs
 
@@ -26,9 +29,9 @@ returns c =
     let second = c .before .before .before .before .before .before .put-masks .ensures in
     let end = c .before .before .put-end .ensures in
     let bytes = put-digits _ _ _ _ (omega arith) (first .0) (first .1) (second .1) in
-    let size = masks-length (c .before .before .before .before .before .before .before .before .before .before .before .before .before .args .job) in
+    let size = masks-length (c .before .before .before .before .before .before .before .before .before .before .before .before .before .before .args .job) in
     (search needs, put-line _ _ _ (omega arith) (omega arith) bytes (end .1))
 
 pub put-job-spec : {M : Type 1} → statement M
 put-job-spec =
-    tie.close (tie.spec put-pair-requires put-masks-requires put-end-requires same-length returns)
+    tie.close (tie.spec cast-put-pair put-pair-requires put-masks-requires put-end-requires same-length returns)

@@ -16,8 +16,8 @@ Inv-loop buffer₀ at job ticks next₀ a₀ buffer next a = (a ≤ ticks) × Fi
 abbrev μ-loop : tie.MeasureT-loop
 μ-loop buffer₀ at job ticks next₀ a₀ buffer next a = ticks - a
 
-wide-requires : tie.Need-wide-requires Inv-loop μ-loop
-wide-requires c κs = search needs
+wide16-requires : tie.Need-wide16-requires Inv-loop μ-loop
+wide16-requires c κs = search needs
 
 loop-holds : tie.Need-loop-holds Inv-loop μ-loop
 loop-holds c = (search needs, filled-none _ _ _)
@@ -63,7 +63,7 @@ put-masks-spec =
     (tie.spec
     Inv-loop
     μ-loop
-    wide-requires
+    wide16-requires
     loop-holds
     mul-put-two
     element-copy-out-put-two
