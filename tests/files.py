@@ -166,7 +166,7 @@ def window_limits():
 def further_orders():
     """Every two further lines out of right ones and of those that are refused, so that the first decides."""
     texts = [window_line(0, 0, 65535), window_line(1, 2, 9), window_line(0, 3, 2), window_line(1, 20001, 65535), window_line(2, 0, 1),
-             "A300", "A30000000001FF", "A302000500", "A200010000", "A400010001", "A1010001", "A502000001", "A60102", "A70001", "FF",
+             "A300", "A30000000001FF", "A302000500", "A200010000", "A40001", "A1010001", "A502000001", "A60102", "A70001", "FF",
              "", "A3000000FFF", "a30000000001", "G"]
     for first in texts:
         yield joined(SMALL_02 + [first])
@@ -185,7 +185,7 @@ def editions():
 def before_nine_and_ten():
     """Files with more than 1,024 clashes, or with delays that cannot be met, whose further lines are right or not."""
     for jobs, delays in ((test_batch(14), []), (test_batch(14), NO_STARTS), ([[1], [2]], NO_STARTS), (test_batch(13), NO_STARTS)):
-        for window in ("A30000000000", "A30000000001", "A30000010000", "A301FFFFFFFF", "A3FF00000001", "A300", "A4000001", "", "A3"):
+        for window in ("A30000000000", "A30000000001", "A30000010000", "A301FFFFFFFF", "A3FF00000001", "A300", "A40001", "", "A3"):
             yield joined(lines(jobs, delays, {}) + ([window] if window else []))
             yield joined(lines(jobs, delays, {}) + [window])
             yield joined(lines(jobs, delays, {0: (0, 0)}) + [window])

@@ -185,7 +185,7 @@ def further(files):
     for place in range(len(head) + 1, len(head + windows)):
         yield "windows behind the batch", cut(head + windows, [place])
     for data in [head, head + windows] + files:
-        for tail in (b"\n", b"0", b"G", b"\x00", b"A4000001\n", b"A200010001\n", b"A3", b"A3\n"):
+        for tail in (b"\n", b"0", b"G", b"\x00", b"A40001\n", b"A200010001\n", b"A3", b"A3\n"):
             yield "no further line", [data, tail]
     for length in (CUT - 1, CUT, CUT + 1, 3 * CUT):
         for tail in (b"\n", b"A30000050005\n"):

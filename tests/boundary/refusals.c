@@ -35,7 +35,7 @@ static void check_further(void) {
     refused_further("1: an empty further line", "\n", PLANNER_REFUSAL_LINE, 1);
     refused_further("1: a further line without 0A", "A30000000001", PLANNER_REFUSAL_LINE, 1);
     refused_further("1: a further line in lower case", "a30000000001\n", PLANNER_REFUSAL_LINE, 1);
-    refused_further("2: kind A4, which is not known", "A4000001\n", PLANNER_REFUSAL_FRAME, 2);
+    refused_further("2: kind A4, which is not known", "A40001\n", PLANNER_REFUSAL_FRAME, 2);
     refused_further("2: kind FF, which is not known", "FF0000000001\n", PLANNER_REFUSAL_FRAME, 2);
     refused_further("2: a delay after the last one", "A200010001\n", PLANNER_REFUSAL_FRAME, 2);
     refused_further("2: a kind that falls", "A30000000001\nA200010001\n", PLANNER_REFUSAL_FRAME, 2);

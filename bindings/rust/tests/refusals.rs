@@ -53,7 +53,7 @@ fn opening() {
         (b"A0020100\nA1010001\n\n", Refusal::Line, 1),
         (b"A0020100\nA1010001\na30000000001\n", Refusal::Line, 1),
         (b"A0020100\nA1010001\nA300000000\n", Refusal::Frame, 2),
-        (b"A0020100\nA1010001\nA4000001\n", Refusal::Frame, 2),
+        (b"A0020100\nA1010001\nA40001\n", Refusal::Frame, 2),
         (b"A0020200\nA1010001\nA1010002\nA200010001\n", Refusal::Frame, 2),
         (b"A0010100\nA1010001\nA30000000001\n", Refusal::Extra, 8),
         (b"A0020201\nA1010001\nA1010002\nA200010005\nA30100000004\n", Refusal::Delays, 10),

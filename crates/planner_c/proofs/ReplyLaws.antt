@@ -2,7 +2,7 @@
 -- the kinds of a run's reply are 01's cases.
 use Prim.Native.Nat.{ℕ}
 use mathlib.Core.Path.{_≡_, refl, ap, sym, _∙_, subst}
-use mathlib.Core.Logic.{_↔_, _≢_, ⊎-elim}
+use mathlib.Core.Logic.{_↔_, _≢_, ⊎-elim, inl, inr}
 use mathlib.Core.Bool.{Bool, true, false}
 use mathlib.Core.List.{List, _++_}
 use native.Mathlib.Omega.{arith}
@@ -37,11 +37,16 @@ use Rattle.planner_c.proofs.RecordLaws.{reached}
 -- ---- opening
 
 -- the number is 0 exactly where the file is a batch file that opens, and then the record is that of its fresh search; any other number is the refusal, 1 to
--- 10, and the record is the one given
+-- 10 or 20, and the record is the one given
 pub record OpenSays (s : Record) (file : List ℕ) (number : ℕ) (after : Record) : Type 0 where
   pub opens : (number ≡ 0) ↔ ((b : Batch) × BatchFile file b)
   pub fresh : (b : Batch) → BatchFile file b → after ≡ recordOf (freshSearch b)
   pub refused : number ≢ 0 → OpenNumber number × (openFile file ≡ refuse number) × (after ≡ s)
+
+-- no refusal of opening has the number 0
+open-positive : (k : ℕ) → OpenNumber k → k ≡ 0 → ⊥
+open-positive k (inl h) z = omega (arith, h .0)
+open-positive k (inr h) z = omega arith
 
 pub open-says : (s : Record) (file : List ℕ) → OpenSays s file (openedRecord s file .0) (openedRecord s file .1)
 unfolding openedRecord openedAs recordOpened numberOf opened openedBy
@@ -50,7 +55,7 @@ open-says s file = by (openFile file) refl
     by : (o : Outcome Batch) → openFile file ≡ o → OpenSays s file (openedAs s (openedBy o) .0) (openedAs s (openedBy o) .1)
     by (refuse k) e =
         record {
-          opens = (λ z. absurd (omega (arith, open-refusals file k e .0)), λ (b, f). refused (sym e ∙ open-format file b .1 f));
+          opens = (λ z. absurd (open-positive k (open-refusals file k e) z), λ (b, f). refused (sym e ∙ open-format file b .1 f));
           fresh = λ b f. refused (sym e ∙ open-format file b .1 f);
           refused = λ n. (open-refusals file k e, e, refl);
         }
@@ -160,7 +165,7 @@ batch-says s buffer = text-says BatchNumber (λ p. ⊎-elim (λ z. omega arith) 
 
 -- ---- judging
 
--- the number is 0 exactly where the file opens and the text is a right plan text for its batch; any other number is the refusal, 1 to 10 or 17 to 19
+-- the number is 0 exactly where the file opens and the text is a right plan text for its batch; any other number is the refusal, 1 to 10, 20 or 17 to 19
 pub record JudgeSays (file text : List ℕ) (number : ℕ) : Type 0 where
   pub passes : (number ≡ 0) ↔ ((b : Batch) × BatchFile file b × RightText b text)
   pub refused : number ≢ 0 → JudgeNumber number × (judge file text ≡ refuse number)
@@ -173,7 +178,7 @@ judge-says file text = by (judge file text) refl
     by (refuse k) e =
         let n = judge-refusals file text k e in
         record {
-          passes = (λ z. absurd (⊎-elim (λ h. omega (arith, z, h .0)) (λ h. omega (arith, z, h .0)) n), λ r. refused (sym e ∙ judge-right file text .1 r));
+          passes = (λ z. absurd (⊎-elim (λ h. open-positive k h z) (λ h. omega (arith, z, h .0)) n), λ r. refused (sym e ∙ judge-right file text .1 r));
           refused = λ _. (n, e);
         }
     by (accept u) e = record { passes = (λ z. judge-right file text .0 e, λ r. refl); refused = λ n. absurd (n refl) }

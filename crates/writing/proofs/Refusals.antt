@@ -8,9 +8,8 @@ use lib.Dec.{eqb}
 use borrow.Author.Tests.{eqb-true}
 use Rattle.model.specs.declared.Batch.{Batch}
 use Rattle.model.specs.declared.Search.{Search}
-use Rattle.model.specs.Common.{isEmpty, Outcome, refuse, accept, _>>=_, require}
-use Rattle.model.specs.Format.{batchFile}
-use Rattle.model.specs.Window.{windowLines}
+use Rattle.model.specs.Common.{Outcome, refuse, accept, _>>=_, require}
+use Rattle.model.specs.Format.{furtherOf, hasNone, batchFile}
 use Rattle.model.specs.Sound.{soundEdition, sound}
 use Rattle.model.specs.Text.{planLines, planText, batchText}
 use Rattle.model.proofs.BoolLaws.{both}
@@ -23,7 +22,7 @@ edition-small : (b : Batch) → soundEdition b ≡ true → b .edition < 256
 unfolding soundEdition
 edition-small b h = go (eqb (b .edition) 2) refl h
   where
-    go : (t : Bool) → eqb (b .edition) 2 ≡ t → (t || (eqb (b .edition) 1 && isEmpty (windowLines b))) ≡ true → b .edition < 256
+    go : (t : Bool) → eqb (b .edition) 2 ≡ t → (t || (eqb (b .edition) 1 && hasNone (furtherOf b))) ≡ true → b .edition < 256
     go true e h = omega (arith, eqb-true (b .edition) 2 e)
     go false e h = omega (arith, eqb-true (b .edition) 1 (both (eqb (b .edition) 1) _ h .0))
 
