@@ -70,7 +70,7 @@ module _ (b : Batch) (fits : Fits b) where
       pick zero = both-near .0
       pick (suc s) = both-near .1
 
-  all-slow : (ts : List Turn) → Named b ts → (q : Delay) → List·Memᴰ q (inequalities (clashes b) b ts) → Slow q
+  pub all-slow : (ts : List Turn) → Named b ts → (q : Delay) → List·Memᴰ q (inequalities (clashes b) b ts) → Slow q
   unfolding Named Slow turned
   all-slow ts named =
       each b fits Slow ts (λ q m. delay-slow (q .weight) (fits .slow q m))

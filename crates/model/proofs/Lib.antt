@@ -30,6 +30,7 @@ pub mod LeaveLaws
 pub mod CallLaws
 pub mod FileLaws
 pub mod OpenLaws
+pub mod FirstLaws
 pub mod ClaimLaws
 pub mod JudgeLaws
 pub mod PaddedLaws

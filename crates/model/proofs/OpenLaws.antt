@@ -1,42 +1,44 @@
 -- Opening accepts exactly the files of the format of 01 and 02 whose delays and ends can be met together, and yields a sound fresh search, which ends. Its batch text is the file,
 -- and its plans are valid, after every list of calls.
-use Prim.Native.Nat.{ℕ, _≤_, min}
+use Prim.Native.Nat.{ℕ, _≤_, _<_, min}
 use mathlib.Core.Path.{_≡_, refl, ap, sym, _∙_, subst}
 use mathlib.Core.Logic.{_↔_}
 use mathlib.Core.Bool.{Bool, true, false}
 use mathlib.Core.Option.{Option, none, some}
 use mathlib.Core.List.{List, [], _∷_, _++_}
 use native.Mathlib.Omega.{arith}
+use native.Mathlib.Decide.{decLt}
 use lib.ListN.{length, take, drop}
 use lib.Seq.{take-at}
+use lib.Dec.{leb}
 use borrow.Author.Tests.{leb-true, le-leb}
 use Rattle.model.specs.declared.Batch.{Batch}
 use Rattle.model.specs.declared.Best.{Best}
 use Rattle.model.specs.declared.Best.the-variants.{Nothing, Latency}
 use Rattle.model.specs.declared.Search.{Search}
 use Rattle.model.specs.Common.{all, count, isSome, Outcome, refuse, accept, _>>=_, require}
-use Rattle.model.specs.Limits.{mostClashes}
+use Rattle.model.specs.Limits.{mostClashes, mostStart, mostLatency}
 use Rattle.model.specs.Batch.{ticks, delaysOf, earliestStarts, latestStarts}
-use Rattle.model.specs.Plan.{KeepsDelays, KeepsEnds, Valid, latency}
+use Rattle.model.specs.Plan.{start, KeepsDelays, KeepsEnds, Valid, Shortest, latency}
 use Rattle.model.specs.Clash.{clashes}
 use Rattle.model.specs.Starts.{leastStarts}
 use Rattle.model.specs.Search.{placeOf, freshPlace, freshSearch, nodes, Ends, nodeLimit}
 use Rattle.model.specs.Format.{Within, batchFile, BatchFile}
-use Rattle.model.specs.Open.{countsOk, ticksOk, jobsOk, weightOk, fewClashes, delaysMet, openFile, openedAs, opened}
+use Rattle.model.specs.Open.{countsOk, ticksOk, jobsOk, weightOk, fewClashes, delaysMet, readFile, openFile, openedAs, opened}
 use Rattle.model.specs.Window.{windowOk}
 use Rattle.model.specs.Sound.{soundEdition, soundFurther, soundBatch, soundBest, sound}
 use Rattle.model.specs.Run.{runRefusal, ran}
 use Rattle.model.specs.Text.{planLines, planText, batchText}
-use Rattle.model.specs.Answers.{plan, runTold, verdictOf, openTold, bestTold}
+use Rattle.model.specs.Answers.{Verdict, spent, plan, noPlan, runTold, verdictOf, openTold, bestTold}
 use Rattle.model.specs.Calls.{Call, call, after, refuses, granted}
 use Rattle.model.specs.Demands.{RunLeaves, PlanWith, Reached, AnswerFor}
-use Rattle.model.proofs.BoolLaws.{apart}
-use Rattle.model.proofs.ListLaws.{all-each, each-all, count-some}
-use Rattle.model.proofs.OutcomeLaws.{refused, accept-eq}
+use Rattle.model.proofs.BoolLaws.{apart, both, decide}
+use Rattle.model.proofs.ListLaws.{all-each, each-all, count-some, some-count}
+use Rattle.model.proofs.OutcomeLaws.{refused, accept-eq, accepts-bind, accepts-require, refuses-require}
 use Rattle.model.proofs.StartsLaws.{Inside, least-length, least-solution, least-found, ends-length, solved, solved-ends, inside-ends}
 use Rattle.model.proofs.GoodLaws.{good-none, ValidBest}
 use Rattle.model.proofs.EndLaws.{End, search-ends, best-valid, nodes-fresh}
-use Rattle.model.proofs.SoundLaws.{Passes, sound-passes, passes-sound, edition-sound, fits, place-sound}
+use Rattle.model.proofs.SoundLaws.{Passes, sound-passes, passes-sound, edition-sound, fits, sound-at, place-sound}
 use Rattle.model.proofs.CallLaws.{at-batch, after-fresh, list-reached, list-refused, list-answered}
 use Rattle.model.proofs.LimitLaws.{jobs-iff, within-limits}
 use Rattle.model.proofs.WindowLaws.{window-ok}
@@ -85,6 +87,17 @@ module _ (b : Batch) (counts : countsOk (b .n) (b .m) ≡ true) (ticks-each : al
         λ e. met .0 (sound-passes b e .met),
         λ t. passes-sound b (record { counts = counts; ticks-each = ticks-each; jobs-each = jobs-each; weight-each = weight-each; edition = edition; further = further; few = few; met = met .1 t }),
       )
+
+-- a file that is read, of a batch with few enough clashes, is refused with 10 exactly when no starts keep its delays and its ends together
+pub refused-10 : (file : List ℕ) (b : Batch) → readFile file ≡ accept b → length (clashes b) ≤ mostClashes → (openFile file ≡ refuse 10) ↔ ¬ Meets b
+unfolding openFile fewClashes
+refused-10 file b e few = (
+  λ z m. refused (sym z ∙ open-read file b .1 (e, le-leb (length (clashes b)) mostClashes few, met .1 m)),
+  λ none. accepts-bind _ e ∙ accepts-require 9 _ (le-leb (length (clashes b)) mostClashes few) ∙ refuses-require 10 _ (decide (delaysMet b) (λ h. none (met .0 h))),
+)
+  where
+    met : (delaysMet b ≡ true) ↔ Meets b
+    met = met-starts b (within-inside b (read-format file b .0 e .0))
 
 -- ---- opening accepts exactly the batch files
 
@@ -216,6 +229,50 @@ module _ (file : List ℕ) (b : Batch) (f : BatchFile file b) where
       let a = after-calls cs in
       subst (λ (s : Search). (l : ℕ) → bestTold (s .best) ≡ some l → PlanWith b (s .starts) l) (sym (a .is ∙ nodes-fresh b (a .k)))
       (valid-best _ _ (best-valid b (fits b passes) (a .k) .good .best))
+
+  -- and keeps 02's limits: no start above 43,000, no latency above 43,016
+  limited : (best : Best) (starts : List ℕ) → soundBest (b .n) best starts ≡ true → (l : ℕ) → bestTold best ≡ some l → ((i : ℕ) → i < b .n → start starts i ≤ mostStart) × (l ≤ mostLatency)
+  unfolding bestTold soundBest
+  limited Nothing starts h l e = let z : _≡_ {A = ℕ} 0 1 = cc in absurd (omega arith)
+  limited (Latency k) starts h l e =
+      let z : k ≡ l = cc in
+      let r = both (leb k mostLatency) _ h in (
+        λ i g. leb-true (start starts i) mostStart (all-each (λ i. leb (start starts i) mostStart) (count 0 (b .n)) (r .1) (some-count 0 (b .n) i (omega arith) (omega arith))),
+        omega (arith, leb-true k mostLatency (r .0)),
+      )
+
+  pub best-limits : (cs : List Call) → let s = after (freshSearch b) cs in (l : ℕ) → bestTold (s .best) ≡ some l → ((i : ℕ) → i < b .n → start (s .starts) i ≤ mostStart) × (l ≤ mostLatency)
+  unfolding placeOf
+  best-limits cs =
+      let s = after (freshSearch b) cs in
+      let a = after-calls cs in
+      limited (s .best) (s .starts) (sound-at b passes s (a .batch) (a .is-sound) .0 .good .best)
+
+  -- the record is still of this batch
+  pub after-batch : (cs : List Call) → after (freshSearch b) cs .batch ≡ b
+  after-batch cs = after-calls cs .batch
+
+  -- an answer that is told is the one for S and N
+  answer-told : (cs : List Call) (c : Call) (v : Verdict) → let x = call (after (freshSearch b) cs) c in runTold (x .0 .answer) ≡ accept v → AnswerFor b N (granted b N 0 (cs ++ (c ∷ []))) (runTold (x .0 .answer)) (x .1)
+  answer-told cs c v e =
+      after-answered cs c (decide (refuses b N (granted b N 0 cs) c) (λ h. let (k, z) = after-refused cs c .0 h in refused (sym z ∙ e)))
+
+  -- so a plan that is told is shortest, with its latency, and where no plan is told there is no valid one
+  pub answer-shortest : (cs : List Call) (c : Call) (l t : ℕ) → let x = call (after (freshSearch b) cs) c in runTold (x .0 .answer) ≡ accept (plan l t) → Shortest b (take (b .n) (x .1)) × (latency b (take (b .n) (x .1)) ≡ l)
+  answer-shortest cs c l t e = let a = answer-told cs c (plan l t) e in a .shortest l t (accept-eq (sym (a .answered) ∙ e))
+
+  pub answer-none : (cs : List Call) (c : Call) (t : ℕ) → runTold (call (after (freshSearch b) cs) c .0 .answer) ≡ accept (noPlan t) → (ts : List ℕ) → ¬ Valid b ts
+  answer-none cs c t e ts v =
+      let a = answer-told cs c (noPlan t) e in
+      let is : a .verdict ≡ noPlan t = accept-eq (sym (a .answered) ∙ e) in
+      by (a .verdict) is (a .is-spent .1) (λ h. a .is-plan h ts v) (decLt S N)
+    where
+      S : ℕ
+      S = granted b N 0 (cs ++ (c ∷ []))
+
+      by : (w : Verdict) → w ≡ noPlan t → (S < N → (t : ℕ) × (w ≡ spent t)) → (N ≤ S → (l : ℕ) × (w ≡ plan l N)) → Dec (S < N) → ⊥
+      by w is more ended (yes h) = let (k, z) = more h in let y : _≡_ {A = ℕ} 0 1 = cc in omega arith
+      by w is more ended (no h) = let (l, z) = ended (omega arith) in let y : _≡_ {A = ℕ} 0 1 = cc in omega arith
 
   -- an answer with a plan is best's, and its starts are the list's first n places
   told-best : (e : Bool) (best : Option ℕ) (total l t : ℕ) → verdictOf e best total ≡ plan l t → best ≡ some l

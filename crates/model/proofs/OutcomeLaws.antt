@@ -37,6 +37,10 @@ pub accepts-require : {B : Type 0} (k : ℕ) {t : Bool} (f : Unit {0} → Outcom
 unfolding _>>=_ require
 accepts-require k f e = rw e
 
+pub refuses-require : {B : Type 0} (k : ℕ) {t : Bool} (f : Unit {0} → Outcome B) → t ≡ false → (require k t >>= f) ≡ refuse k
+unfolding _>>=_ require
+refuses-require k f e = rw e
+
 pub given-accepts : {A : Type 0} (k : ℕ) (o : Option A) (a : A) → given k o ≡ accept a → o ≡ some a
 unfolding given
 given-accepts k none a e = refused e

@@ -21,12 +21,12 @@ pub record Framing {A : Type 0} (frame : List ℕ → Outcome A) (kind : ℕ) (b
 -- ---- the line where a frame is due
 
 -- where a frame is due, what is accepted is a line
-due-line : (file : List ℕ) (p : List ℕ × List ℕ) → due file ≡ accept p → readLine file ≡ some p
+pub due-line : (file : List ℕ) (p : List ℕ × List ℕ) → due file ≡ accept p → readLine file ≡ some p
 unfolding due
 due-line file p e = given-accepts 1 (readLine file) p (require-accepts 7 _ _ p e .1)
 
 -- a line that was written is accepted there
-line-due : (b : ℕ) (bs rest : List ℕ) → Bytes (b ∷ bs) → due (line (b ∷ bs) ++ rest) ≡ accept (b ∷ bs, rest)
+pub line-due : (b : ℕ) (bs rest : List ℕ) → Bytes (b ∷ bs) → due (line (b ∷ bs) ++ rest) ≡ accept (b ∷ bs, rest)
 unfolding due line digitsOf joined isEmpty require _>>=_ given
 line-due b bs rest h = ap (given 1) (line-read b bs rest h)
 

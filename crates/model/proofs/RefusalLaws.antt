@@ -11,6 +11,7 @@ use Rattle.model.specs.declared.Search.{Search}
 use Rattle.model.specs.Common.{if_then_else_, isEmpty, Outcome, refuse, accept, _>>=_, require, given}
 use lib.ListN.{length}
 use lib.Dec.{eqb}
+use borrow.Author.Tests.{eqb-true, eqb-false}
 use Rattle.model.specs.Line.{readLine, at}
 use Rattle.model.specs.Format.{noFurther}
 use Rattle.model.specs.Window.{WindowLine, window}
@@ -33,10 +34,13 @@ module _ {P : ℕ → Type 0} where
   only-refuse : {A : Type 0} {j : ℕ} → P j → Only {A = A} P (refuse j)
   only-refuse {j} p = record { number = λ k e. let z : j ≡ k = cc in subst P z p }
 
-  only-bind : {A B : Type 0} {m : Outcome A} (f : A → Outcome B) → Only P m → ((a : A) → Only P (f a)) → Only P (m >>= f)
+  only-bind-at : {A B : Type 0} {m : Outcome A} (f : A → Outcome B) → Only P m → ((a : A) → m ≡ accept a → Only P (f a)) → Only P (m >>= f)
   unfolding _>>=_
-  only-bind {m = refuse j} f h g = record { number = λ k e. h .number k (refuse-as e) }
-  only-bind {m = accept a} f h g = g a
+  only-bind-at {m = refuse j} f h g = record { number = λ k e. h .number k (refuse-as e) }
+  only-bind-at {m = accept a} f h g = g a refl
+
+  only-bind : {A B : Type 0} {m : Outcome A} (f : A → Outcome B) → Only P m → ((a : A) → Only P (f a)) → Only P (m >>= f)
+  only-bind f h g = only-bind-at f h (λ a e. g a)
 
   only-require : (j : ℕ) (t : Bool) → P j → Only P (require j t)
   unfolding require
@@ -54,87 +58,115 @@ module _ {P : ℕ → Type 0} where
 
 -- ---- opening
 
+-- what a line after the header is refused with in either edition
+pub record InLines (P : ℕ → Type 0) : Type 0 where
+  pub n1 : P 1
+  pub n2 : P 2
+  pub n4 : P 4
+  pub n5 : P 5
+  pub n6 : P 6
+  pub n7 : P 7
+
+module _ {P : ℕ → Type 0} (p : InLines P) where
+  only-header : P 3 → (f : List ℕ) → Only P (header f)
+  unfolding header
+  only-header n3 f = only-after 2 _ _ (p .n2) (only-after 3 _ _ n3 (only-after 4 _ _ (p .n4) (only-accept _)))
+
+  only-job : (f : List ℕ) → Only P (job f)
+  unfolding job
+  only-job f = only-after 2 _ _ (p .n2) (only-after 4 _ _ (p .n4) (only-accept _))
+
+  only-delay : (n : ℕ) (f : List ℕ) → Only P (delay n f)
+  unfolding delay
+  only-delay n f = only-after 2 _ _ (p .n2) (only-after 5 _ _ (p .n5) (only-after 6 _ _ (p .n6) (only-accept _)))
+
+  only-due : (file : List ℕ) → Only P (due file)
+  unfolding due
+  only-due file = only-after 7 _ _ (p .n7) (only-given 1 (readLine file) (p .n1))
+
+  module _ {A : Type 0} (frame : List ℕ → Outcome A) (h : (f : List ℕ) → Only P (frame f)) where
+    pub only-one : (file : List ℕ) → Only P (readOne frame file)
+    unfolding readOne
+    only-one file = only-bind _ (only-due file) (λ (f, rest). only-bind _ (h f) (λ x. only-accept _))
+
+    only-all : (k : ℕ) (file : List ℕ) → Only P (readAll frame k file)
+    unfolding readAll
+    only-all zero file = only-accept _
+    only-all (suc k) file = only-bind _ (only-one file) (λ (x, rest). only-bind _ (only-all k rest) (λ (xs, end). only-accept _))
+
+  -- the header alone also with 3
+  pub only-first : P 3 → (file : List ℕ) → Only P (readOne header file)
+  only-first n3 = only-one header (only-header n3)
+
+  only-window : P 20 → (n : ℕ) (before : List WindowLine) (f : List ℕ) → Only P (window n before f)
+  unfolding window
+  only-window n20 n before f = only-after 2 _ _ (p .n2) (only-after 20 _ _ n20 (only-accept _))
+
+  module _ {A : Type 0} (kind : ℕ) (frame : List A → List ℕ → Outcome A) (h : (before : List A) (f : List ℕ) → Only P (frame before f)) where
+    only-kind : (k : ℕ) (before : List A) (file : List ℕ) → Only P (readKind kind frame k before file)
+    unfolding readKind
+    only-kind zero before file = only-accept _
+    only-kind (suc k) before [] = only-accept _
+    only-kind (suc k) before (c ∷ cs) = only-bind _ (only-given 1 (readLine (c ∷ cs)) (p .n1)) (λ (f, rest). go f rest (eqb (at f 0) kind) (only-kind k))
+      where
+        go : (f rest : List ℕ) (t : Bool) → ((before : List A) (file : List ℕ) → Only P (readKind kind frame k before file))
+            → Only {A = List A × List ℕ} P (elim t [ true ↦ (frame before f >>= λ x. readKind kind frame k (before ++ (x ∷ [])) rest) | false ↦ accept (before, c ∷ cs) ])
+        go f rest true rec = only-bind _ (h before f) (λ x. rec (before ++ (x ∷ [])) rest)
+        go f rest false rec = only-accept _
+
+  only-nothing : (end : List ℕ) → Only P (nothingLeft end)
+  unfolding nothingLeft
+  only-nothing [] = only-accept tt
+  only-nothing (c ∷ cs) = only-bind _ (only-given 1 (readLine (c ∷ cs)) (p .n1)) (λ x. only-refuse (p .n2))
+
+  only-further : P 20 → (n : ℕ) (file : List ℕ) → Only P (readFurther n file)
+  unfolding readFurther
+  only-further n20 n file =
+      only-bind _ (only-kind 0xA3 (window n) (only-window n20 n) (length file) [] file) (λ (windows, end). only-bind _ (only-nothing end) (λ u. only-accept _))
+
+  -- edition 01 with 8 after the delays, another with the numbers of further lines
+  only-rest : (edition n : ℕ) (end : List ℕ) → (edition ≡ 1 → P 8) → (¬ (edition ≡ 1) → P 20) → Only P (readRest edition n end)
+  unfolding readRest if_then_else_
+  only-rest edition n end n8 n20 = go (eqb edition 1) refl
+    where
+      go : (t : Bool) → eqb edition 1 ≡ t → Only P (if t then (require 8 (isEmpty end) >>= λ u. accept noFurther) else readFurther n end)
+      go true e = only-after 8 _ _ (n8 (eqb-true edition 1 e)) (only-accept _)
+      go false e = only-further (n20 (eqb-false edition 1 e)) n end
+
+  -- a whole file, by what its header says
+  module _ (file : List ℕ) (n9 : P 9) (n10 : P 10) (first : Only P (readOne header file))
+      (by-edition : (edition n m : ℕ) (rest : List ℕ) → readOne header file ≡ accept ((edition, n, m), rest) → (edition ≡ 1 → P 8) × (¬ (edition ≡ 1) → P 20)) where
+    only-file : Only P (readFile file)
+    unfolding readFile
+    only-file =
+        only-bind-at _ first (λ ((edition, n, m), afterHeader) e.
+        only-bind _ (only-all job only-job n afterHeader) (λ (jobs, afterJobs).
+        only-bind _ (only-all (delay n) (only-delay n) m afterJobs) (λ (delays, end).
+        only-bind _ (let r = by-edition edition n m afterHeader e in only-rest edition n end (r .0) (r .1)) (λ further. only-accept _))))
+
+    pub only-open : Only P (openFile file)
+    unfolding openFile
+    only-open = only-bind _ only-file (λ b. only-after 9 _ _ n9 (only-after 10 _ _ n10 (only-accept b)))
+
 abbrev pub OpenNumber : ℕ → Type 0
 OpenNumber k = ((1 ≤ k) × (k ≤ 10)) ⊎ (k ≡ 20)
 
-only-header : (f : List ℕ) → Only OpenNumber (header f)
-unfolding header
-only-header f =
-    only-after 2 _ _ (inl (omega arith, omega arith)) (only-after 3 _ _ (inl (omega arith, omega arith)) (only-after 4 _ _ (inl (omega arith, omega arith)) (only-accept _)))
-
-only-job : (f : List ℕ) → Only OpenNumber (job f)
-unfolding job
-only-job f = only-after 2 _ _ (inl (omega arith, omega arith)) (only-after 4 _ _ (inl (omega arith, omega arith)) (only-accept _))
-
-only-delay : (n : ℕ) (f : List ℕ) → Only OpenNumber (delay n f)
-unfolding delay
-only-delay n f =
-    only-after 2 _ _ (inl (omega arith, omega arith)) (only-after 5 _ _ (inl (omega arith, omega arith)) (only-after 6 _ _ (inl (omega arith, omega arith)) (only-accept _)))
-
-only-due : (file : List ℕ) → Only OpenNumber (due file)
-unfolding due
-only-due file = only-after 7 _ _ (inl (omega arith, omega arith)) (only-given 1 (readLine file) (inl (omega arith, omega arith)))
-
-module _ {A : Type 0} (frame : List ℕ → Outcome A) (h : (f : List ℕ) → Only OpenNumber (frame f)) where
-  only-one : (file : List ℕ) → Only OpenNumber (readOne frame file)
-  unfolding readOne
-  only-one file = only-bind _ (only-due file) (λ (f, rest). only-bind _ (h f) (λ x. only-accept _))
-
-  only-all : (k : ℕ) (file : List ℕ) → Only OpenNumber (readAll frame k file)
-  unfolding readAll
-  only-all zero file = only-accept _
-  only-all (suc k) file = only-bind _ (only-one file) (λ (x, rest). only-bind _ (only-all k rest) (λ (xs, end). only-accept _))
-
-only-window : (n : ℕ) (before : List WindowLine) (f : List ℕ) → Only OpenNumber (window n before f)
-unfolding window
-only-window n before f = only-after 2 _ _ (inl (omega arith, omega arith)) (only-after 20 _ _ (inr refl) (only-accept _))
-
-module _ {A : Type 0} (kind : ℕ) (frame : List A → List ℕ → Outcome A) (h : (before : List A) (f : List ℕ) → Only OpenNumber (frame before f)) where
-  only-kind : (k : ℕ) (before : List A) (file : List ℕ) → Only OpenNumber (readKind kind frame k before file)
-  unfolding readKind
-  only-kind zero before file = only-accept _
-  only-kind (suc k) before [] = only-accept _
-  only-kind (suc k) before (c ∷ cs) = only-bind _ (only-given 1 (readLine (c ∷ cs)) (inl (omega arith, omega arith))) (λ (f, rest). go f rest (eqb (at f 0) kind) (only-kind k))
-    where
-      go : (f rest : List ℕ) (t : Bool) → ((before : List A) (file : List ℕ) → Only OpenNumber (readKind kind frame k before file))
-          → Only {A = List A × List ℕ} OpenNumber (elim t [ true ↦ (frame before f >>= λ x. readKind kind frame k (before ++ (x ∷ [])) rest) | false ↦ accept (before, c ∷ cs) ])
-      go f rest true rec = only-bind _ (h before f) (λ x. rec (before ++ (x ∷ [])) rest)
-      go f rest false rec = only-accept _
-
-only-nothing : (end : List ℕ) → Only OpenNumber (nothingLeft end)
-unfolding nothingLeft
-only-nothing [] = only-accept tt
-only-nothing (c ∷ cs) = only-bind _ (only-given 1 (readLine (c ∷ cs)) (inl (omega arith, omega arith))) (λ p. only-refuse (inl (omega arith, omega arith)))
-
-only-further : (n : ℕ) (file : List ℕ) → Only OpenNumber (readFurther n file)
-unfolding readFurther
-only-further n file =
-    only-bind _ (only-kind 0xA3 (window n) (only-window n) (length file) [] file) (λ (windows, end). only-bind _ (only-nothing end) (λ u. only-accept _))
-
-only-rest : (edition n : ℕ) (end : List ℕ) → Only OpenNumber (readRest edition n end)
-unfolding readRest if_then_else_
-only-rest edition n end = go (eqb edition 1)
-  where
-    go : (t : Bool) → Only OpenNumber (if t then (require 8 (isEmpty end) >>= λ u. accept noFurther) else readFurther n end)
-    go true = only-after 8 _ _ (inl (omega arith, omega arith)) (only-accept _)
-    go false = only-further n end
-
-only-file : (file : List ℕ) → Only OpenNumber (readFile file)
-unfolding readFile
-only-file file =
-    only-bind _ (only-one header only-header file) (λ ((edition, n, m), afterHeader).
-    only-bind _ (only-all job only-job n afterHeader) (λ (jobs, afterJobs).
-    only-bind _ (only-all (delay n) (only-delay n) m afterJobs) (λ (delays, end).
-    only-bind _ (only-rest edition n end) (λ further. only-accept _))))
-
-only-open : (file : List ℕ) → Only OpenNumber (openFile file)
-unfolding openFile
-only-open file =
-    only-bind _ (only-file file) (λ b. only-after 9 _ _ (inl (omega arith, omega arith)) (only-after 10 _ _ (inl (omega arith, omega arith)) (only-accept b)))
+open-lines : InLines OpenNumber
+open-lines =
+    record {
+      n1 = inl (omega arith, omega arith);
+      n2 = inl (omega arith, omega arith);
+      n4 = inl (omega arith, omega arith);
+      n5 = inl (omega arith, omega arith);
+      n6 = inl (omega arith, omega arith);
+      n7 = inl (omega arith, omega arith);
+    }
 
 -- opening refuses with 1 to 10, or 20
 pub open-refusals : (file : List ℕ) (k : ℕ) → openFile file ≡ refuse k → OpenNumber k
-open-refusals file = only-open file .number
+open-refusals file =
+    only-open open-lines file (inl (omega arith, omega arith)) (inl (omega arith, omega arith)) (only-first open-lines (inl (omega arith, omega arith)) file)
+    (λ edition n m rest e. (λ one. inl (omega arith, omega arith), λ two. inr refl)) .number
 
 -- ---- running
 

@@ -12,6 +12,7 @@ pub mod Line
 pub mod Window
 pub mod Format
 pub mod Open
+pub mod First
 pub mod Sound
 pub mod Run
 pub mod Answers

@@ -47,7 +47,7 @@ plan-over file b f list l p = latency-over b (f .within) (take (b .n) list) l .0
 -- ---- padding
 
 -- a file is in form exactly when it is read
-form-iff : (file : List ℕ) (b : Batch) → FileOf file b ↔ (readFile file ≡ accept b)
+pub form-iff : (file : List ℕ) (b : Batch) → FileOf file b ↔ (readFile file ≡ accept b)
 form-iff file b = (
   λ f. read-format file b .1 (f .within, f .text, f .blank),
   λ e. let (within, text, blank) = read-format file b .0 e in record { within = within; text = text; blank = blank },

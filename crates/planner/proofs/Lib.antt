@@ -3,3 +3,4 @@ pub mod Demands
 pub mod Pins
 pub mod Judging
 pub mod Finish
+pub mod Windows

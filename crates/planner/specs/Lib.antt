@@ -2,3 +2,4 @@
 pub mod Demands
 pub mod Judging
 pub mod Finish
+pub mod Windows

@@ -1,0 +1,73 @@
+-- Document 01 alone, in the words that stood before request Q-4 of 02: one edition, nothing after the delays, and starts with no ends. model/proofs/FirstLaws says
+-- what today's definitions make of a file of edition 01, and of every sound record of it: this, and nothing else.
+use Prim.Native.Nat.{ℕ, _≤_, _<_, pred}
+use mathlib.Core.Path.{_≡_}
+use mathlib.Core.Bool.{Bool}
+use mathlib.Core.List.{List, _++_}
+use mathlib.Core.Option.{Option, none, some}
+use lib.ListN.{length, replicate}
+use lib.Dec.{eqb}
+use Rattle.model.specs.declared.Delay.{Delay}
+use Rattle.model.specs.declared.Batch.{Batch}
+use Rattle.model.specs.Common.{if_then_else_, isEmpty, isSome, Outcome, accept, _>>=_, require}
+use Rattle.model.specs.Batch.{delaysOf}
+use Rattle.model.specs.Plan.{KeepsDelays, KeepsStations, latency}
+use Rattle.model.specs.Starts.{rounds, same}
+use Rattle.model.specs.Line.{at, frameIs}
+use Rattle.model.specs.Format.{headerLine, noFurther, batchOf}
+use Rattle.model.specs.Open.{countsOk, fewClashes, job, delay, readOne, readAll}
+
+-- ---- plans: valid when they keep the delays and the stations
+
+pub record Valid01 (b : Batch) (ts : List ℕ) : Type 0 where
+  pub starts : length ts ≡ b .n
+  pub delays : KeepsDelays b ts
+  pub stations : KeepsStations b ts
+
+-- a valid plan, and every other valid plan has at least its latency
+pub record Shortest01 (b : Batch) (ts : List ℕ) : Type 0 where
+  pub valid : Valid01 b ts
+  pub least : (us : List ℕ) → Valid01 b us → latency b ts ≤ latency b us
+
+-- ---- least starts: after 0 rounds all starts are 0. If round n still changes something, there are none; otherwise these are the least starts
+
+unfoldable pub first01 : ℕ → List ℕ
+first01 n = replicate n 0
+
+unfoldable pub least01 : ℕ → List Delay → Option (List ℕ)
+least01 n qs =
+    let last = rounds qs (first01 n) n in
+    if same last (rounds qs (first01 n) (pred n)) then some last else none
+
+-- ---- opening: in the header 3 where the edition is not 01; after the delays 8 where something is left, then 9, and 10 where the delays cannot be met
+
+unfoldable pub met01 : Batch → Bool
+met01 b = isSome (least01 (b .n) (delaysOf b))
+
+-- the header: n and m
+unfoldable pub header01 : List ℕ → Outcome (ℕ × ℕ)
+header01 f = do
+  _ ← require 2 (frameIs 0xA0 4 f)
+  _ ← require 3 (eqb (at f 1) 1)
+  _ ← require 4 (countsOk (at f 2) (at f 3))
+  accept (at f 2, at f 3)
+
+unfoldable pub readFile01 : List ℕ → Outcome Batch
+readFile01 file = do
+  ((n, m), afterHeader) ← readOne header01 file
+  (jobs, afterJobs) ← readAll job n afterHeader
+  (delays, end) ← readAll (delay n) m afterJobs
+  _ ← require 8 (isEmpty end)
+  accept (batchOf 1 jobs delays noFurther)
+
+unfoldable pub openFile01 : List ℕ → Outcome Batch
+openFile01 file = do
+  b ← readFile01 file
+  _ ← require 9 (fewClashes b)
+  _ ← require 10 (met01 b)
+  accept b
+
+-- ---- the file begins with a header of this edition, whatever its counts. Where it is 02, 01 refuses the file with 3, and there alone the two differ
+
+unfoldable pub Begins : ℕ → List ℕ → Type 0
+Begins edition file = (n : ℕ) × (m : ℕ) × (rest : List ℕ) × (n < 256) × (m < 256) × (file ≡ headerLine edition n m ++ rest)
