@@ -30,12 +30,12 @@ use Rattle.weights.proofs.SoundLaws.{delays-length, holds-read}
 use Rattle.times.specs.Latency.{latencyOf, raisedBy}
 use Rattle.soundness.specs.declared.Examined.{Examined}
 use Rattle.soundness.specs.Examined.{Prepared}
-use Rattle.search.specs.declared.node.Walk.{Walk}
-use Rattle.search.specs.declared.node.Sizes.{Sizes}
-use Rattle.search.specs.Walk.{turnsIn, Path, Coded, Steps, placeAt}
-use Rattle.search.specs.Kit.{Works}
-use Rattle.search.proofs.RowsLaws.{kept-fresh}
-use Rattle.search.proofs.WorksLaws.{passing-stays, turns-coded}
+use Rattle.node.specs.declared.visit.Walk.{Walk}
+use Rattle.node.specs.declared.visit.Sizes.{Sizes}
+use Rattle.node.specs.Walk.{turnsIn, Path, Coded, Steps, placeAt}
+use Rattle.node.specs.Kit.{Works}
+use Rattle.node.proofs.RowsLaws.{kept-fresh}
+use Rattle.node.proofs.WorksLaws.{passing-stays, turns-coded}
 use Rattle.search.proofs.RecordLaws.{record-back, path-held, place-held, place-is-sound}
 
 -- the record of a place, once its path is put together

@@ -13,11 +13,11 @@ use Rattle.model.specs.Sound.{sound}
 use Rattle.model.specs.Run.{counted}
 use Rattle.model.proofs.GoodLaws.{step-next}
 use Rattle.model.proofs.SoundLaws.{fits, SoundBest, sound-new, place-sound}
-use Rattle.search.specs.declared.node.Walk.{Walk}
-use Rattle.search.specs.declared.node.Sizes.{Sizes}
-use Rattle.search.specs.Walk.{Path, placeAt}
-use Rattle.search.specs.Kit.{Kit, Trail, Works, Ready, Visited}
-use Rattle.search.proofs.WorksLaws.{place-back, passes, good}
+use Rattle.node.specs.declared.visit.Walk.{Walk}
+use Rattle.node.specs.declared.visit.Sizes.{Sizes}
+use Rattle.node.specs.Walk.{Path, placeAt}
+use Rattle.node.specs.Kit.{Kit, Trail, Works, Ready, Visited}
+use Rattle.node.proofs.WorksLaws.{place-back, passes, good}
 
 nodes-none : (cs : List Clash) (s : Search) (k : ℕ) → k ≤ 0 → nodesOn cs k s ≡ s
 unfolding nodesOn

@@ -22,7 +22,7 @@ use Rattle.model.proofs.SeqLaws.{listed-at, listed-length, getD-in, upTo-drop}
 use Rattle.model.proofs.NodeLaws.{Named}
 use Rattle.model.proofs.GoodLaws.{GoodTurns, good-named, good-length}
 use Rattle.model.proofs.SoundLaws.{record-passes, fits, sound-at, place-sound}
-use Rattle.search.specs.Walk.{turnOf, turnsIn, Path, placeAt}
+use Rattle.node.specs.Walk.{turnOf, turnsIn, Path, placeAt}
 
 -- ---- the path of a sound record is its turns and then empty places
 

@@ -1,4 +1,2 @@
--- What the search's contracts say of its arrays and of the place that it walks.
-pub mod Walk
-pub mod Rows
-pub mod Kit
+-- What the loop over nodes says of its arrays.
+pub mod Walks

@@ -1,12 +1,13 @@
 // Nodes until the search has ended or the budget is used.
-use crate::node::Sizes;
-use crate::node::Walk;
-use crate::node::visit;
 use model::Tally;
+use node::visit::Sizes;
+use node::visit::Walk;
+use node::visit::visit;
 ghost use mathlib.Core.Path.{_≡_};
 ghost use Prim.Native.Nat.{_+_, _≤_, _<_};
 ghost use Rattle.model.specs.Run.{counted};
-ghost use Rattle.search.specs.Kit.{Ready, Walks};
+ghost use Rattle.node.specs.Kit.{Ready};
+ghost use Rattle.search.specs.Walks.{Walks};
 
 // Where the search stands after the nodes, and what they counted.
 pub struct Walked {

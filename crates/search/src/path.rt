@@ -5,7 +5,7 @@ ghost use mathlib.Core.Path.{_≡_};
 ghost use Prim.Native.Nat.{_≤_};
 ghost use Rattle.model.specs.Common.{pad};
 ghost use Rattle.model.specs.Search.{empty};
-ghost use Rattle.search.specs.Walk.{turnsIn};
+ghost use Rattle.node.specs.Walk.{turnsIn};
 
 // The first depth turns, and empty places behind them.
 pub fn path_of(turns: &[u16; 1024], depth: usize) -> [Turn; 1024]

@@ -1,7 +1,5 @@
 // A run: refusals 11 to 14 in turn, then nodes until the search has ended or the budget is used, and the answer.
 use crate::answer::answered;
-use crate::node::Sizes;
-use crate::node::Walk;
 use crate::nodes::Walked;
 use crate::nodes::visit_nodes;
 use crate::path::path_of;
@@ -13,6 +11,8 @@ use model::Search;
 use model::Tally;
 use model::wide;
 use model::wide16;
+use node::visit::Sizes;
+use node::visit::Walk;
 use soundness::Examined;
 use soundness::examine;
 use starts::heaviest_of;
@@ -25,7 +25,7 @@ ghost use Prim.Native.Nat.{_+_, _≤_};
 ghost use Rattle.model.specs.Search.{searchOf, nodes};
 ghost use Rattle.model.specs.Sound.{sound};
 ghost use Rattle.model.specs.Run.{ran};
-ghost use Rattle.search.specs.Walk.{Path, Coded, Steps, placeAt};
+ghost use Rattle.node.specs.Walk.{Path, Coded, Steps, placeAt};
 ghost use Rattle.soundness.specs.Examined.{Prepared};
 
 // The record where a run has come to.

@@ -5,8 +5,8 @@ use native.Mathlib.Omega.{arith}
 use borrow.Author.Needs.{needs}
 use Rattle.model.specs.Common.{pad}
 use Rattle.model.specs.Search.{empty}
-use Rattle.search.specs.Walk.{turnOf, turnsIn}
-use Rattle.search.proofs.PathLaws.{path-none, path-more, path-all}
+use Rattle.node.specs.Walk.{turnOf, turnsIn}
+use Rattle.node.proofs.PathLaws.{path-none, path-more, path-all}
 use Rattle.search.proofs.path.path_of.Statement.{statement}
 use Rattle.search.proofs.path.path_of.Tie as tie
 use Rattle.search.proofs.path.path_of.Reads as reads

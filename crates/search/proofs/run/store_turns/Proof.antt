@@ -3,8 +3,8 @@ use Prim.Native.Nat.{_-_, _≤_}
 use mathlib.Core.Path.{_≡_, refl}
 use native.Mathlib.Omega.{arith}
 use borrow.Author.Needs.{needs}
-use Rattle.search.specs.Walk.{Steps}
-use Rattle.search.proofs.StepsLaws.{steps-more}
+use Rattle.node.specs.Walk.{Steps}
+use Rattle.node.proofs.StepsLaws.{steps-more}
 use Rattle.search.proofs.run.store_turns.Statement.{statement}
 use Rattle.search.proofs.run.store_turns.Tie as tie
 
