@@ -8,7 +8,6 @@ use mathlib.Core.List.{List, [], _∷_, _++_, map-id, append-nil, List·Memᴰ}
 use native.Mathlib.Omega.{arith}
 use lib.ListN.{length, replicate, length-map}
 use lib.Dec.{eqb}
-use borrow.Author.Tests.{eqb-true}
 use Rattle.model.specs.declared.Batch.{Batch}
 use Rattle.model.specs.declared.Delay.{Delay}
 use Rattle.model.specs.declared.Job.{Job}
@@ -16,9 +15,9 @@ use Rattle.model.specs.Common.{if_then_else_, count, pad, joined, isEmpt
 use Rattle.model.specs.Limits.{mostJobs, mostDelays}
 use Rattle.model.specs.Batch.{blankJob, blankDelay, jobOf, ticks, mask, delayOf, delaysOf}
 use Rattle.model.specs.Line.{readLine}
-use Rattle.model.specs.Window.{WindowLine, windowText, windowLines, windowsOf, window}
+use Rattle.model.specs.Window.{WindowLine, windowText, window}
 use Rattle.model.specs.Format.{headerLine, masksOf, jobLine, delayLine, jobsOf, Further, furtherOf, furtherText, batchFile, noFurther, Edition, Within, batchOf, blanked}
-use Rattle.model.specs.Open.{editionOk, countsOk, fewClashes, delaysMet, header, job, delay, readOne, readAll, readKind, nothingLeft, readFurther, readRest, readFile, openFile}
+use Rattle.model.specs.Open.{editionOk, fewClashes, delaysMet, header, job, delay, readOne, readAll, readKind, nothingLeft, readFurther, readRest, readFile, openFile}
 use Rattle.model.proofs.BoolLaws.{apart}
 use Rattle.model.proofs.ListLaws.{count-length, each-item, index-in, by-index}
 use Rattle.model.proofs.OutcomeLaws.{refused, accept-eq, bind-accepts, accepts-bind, require-accepts, accepts-require}

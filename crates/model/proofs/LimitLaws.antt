@@ -1,4 +1,4 @@
--- 01's limits as tests and as facts: a batch is within them exactly when it passes the tests of opening and each mask is two bytes.
+-- The limits of 01 and 02 as tests and as facts: a batch is within them exactly when it passes the tests of opening and each mask is two bytes.
 use Prim.Native.Nat.{ℕ, _-_, _≤_, _<_}
 use mathlib.Core.Path.{_≡_, refl, ap}
 use mathlib.Core.Logic.{_⊎_, inl, inr, _↔_, _≢_}

@@ -8,13 +8,12 @@ use native.Mathlib.Decide.{decLt}
 use lib.ListN.{length, getD, List·getD-eq-default}
 use lib.Seq.{ext-getD}
 use Rattle.model.specs.declared.Batch.{Batch}
-use Rattle.model.specs.declared.Delay.{Delay}
 use Rattle.model.specs.declared.Job.{Job}
 use Rattle.model.specs.Common.{count, pad, accept}
 use Rattle.model.specs.Limits.{mostJobs, mostTicks}
 use Rattle.model.specs.Batch.{blankJob, jobOf, ticks, mask, delaysOf}
 use Rattle.model.specs.Window.{windowLines, windowsOf}
-use Rattle.model.specs.Format.{masksOf, jobsOf, furtherOf, batchFile, Edition, Within, padJob, batchOf, blanked}
+use Rattle.model.specs.Format.{masksOf, furtherOf, batchFile, Edition, Within, padJob, batchOf, blanked}
 use Rattle.model.specs.Padded.{Padded}
 use Rattle.model.specs.Open.{readFile}
 use Rattle.model.proofs.SeqLaws.{map-map, listed-at, listed-length, listed-cong, pad-at, pad-length}

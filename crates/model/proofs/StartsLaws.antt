@@ -1,4 +1,4 @@
--- Least starts: they keep the inequalities, no solution has a smaller start, and they exist where there is a solution.
+-- Least starts: they keep the inequalities and the ends, no solution has a smaller start, and they exist exactly where there is a solution.
 use Prim.Native.Nat.{ℕ, zero, suc, _+_, _≤_, _<_, max, pred}
 use mathlib.Core.Path.{_≡_, refl, ap, ap₂, sym, _∙_, subst}
 use mathlib.Core.Logic.{_⊎_, inl, inr, _↔_}
@@ -12,14 +12,14 @@ use lib.ListN.{length, getD, length-map, List·getD-eq-default}
 use lib.Dec.{leb, eqb}
 use lib.Seq.{ext-getD}
 use borrow.Author.Tests.{leb-true, le-leb, eqb-true, eqb-false, eq-eqb}
-use Rattle.model.specs.Common.{count, all, isSome, if_then_else_}
+use Rattle.model.specs.Common.{count, isSome, if_then_else_}
 use Rattle.model.specs.declared.Delay.{Delay}
 use Rattle.model.specs.declared.Batch.{Batch}
 use Rattle.model.specs.Batch.{earliest, latest, earliestStarts, latestStarts}
 use Rattle.model.specs.Plan.{start, Keeps, KeepsEnds}
 use Rattle.model.specs.Starts.{plus, raised, rounds, same, inTime, leastStarts, Solution, Least}
 use Rattle.model.proofs.PlusLaws.{plus-mono, plus-shift, plus-le, le-plus}
-use Rattle.model.proofs.BoolLaws.{apart, both, and}
+use Rattle.model.proofs.BoolLaws.{apart, both}
 use Rattle.model.proofs.ListLaws.{count-length, all-each, each-all, count-some, some-count}
 use Rattle.model.proofs.SeqLaws.{listed-at, listed-length}
 

@@ -16,7 +16,7 @@ use Rattle.model.specs.declared.Delay.{Delay}
 use Rattle.model.specs.declared.Batch.{Batch}
 use Rattle.model.specs.declared.Best.{Best}
 use Rattle.model.specs.declared.Best.the-variants.{Nothing, Latency}
-use Rattle.model.specs.Common.{count, all, if_then_else_}
+use Rattle.model.specs.Common.{count, if_then_else_}
 use Rattle.model.specs.Batch.{delaysOf, earliestStarts, latestStarts}
 use Rattle.model.specs.Plan.{start, Keeps, latency}
 use Rattle.model.specs.Clash.{Clash, clashes}

@@ -1,14 +1,13 @@
 -- Kind A3: its frame both ways, and its lines and the record's places for them to each other.
 use Prim.Native.Nat.{ℕ, zero, suc, _+_, _*_, _/_, _%_, _≤_, _<_}
 use mathlib.Core.Path.{_≡_, refl, ap, ap₂, sym, _∙_, subst}
-use mathlib.Core.Logic.{_↔_}
 use mathlib.Core.Bool.{Bool, true, false, not, _&&_}
-use mathlib.Core.List.{List, [], _∷_, _++_, map, List·Memᴰ, List·Memᴰ·head, List·Memᴰ·tail, List·Memᴰ·cases-cons}
+use mathlib.Core.List.{List, [], _∷_, _++_, map, List·Memᴰ, List·Memᴰ·head, List·Memᴰ·tail}
 use native.Mathlib.Omega.{arith}
 use native.Mathlib.Decide.{ℕ-discrete}
-use lib.ListN.{length, getD}
+use lib.ListN.{getD}
 use lib.Dec.{leb, ltb, eqb}
-use borrow.Author.Tests.{leb-true, le-leb, ltb-true, lt-ltb, eqb-true, eq-eqb, eqb-false, ne-eqb}
+use borrow.Author.Tests.{leb-true, le-leb, ltb-true, lt-ltb, eqb-true, eq-eqb, ne-eqb}
 use Rattle.model.specs.declared.Batch.{Batch}
 use Rattle.model.specs.declared.Window.{Window}
 use Rattle.model.specs.Common.{if_then_else_, count, all, keep, accept, _>>=_, require}
@@ -17,7 +16,7 @@ use Rattle.model.specs.Batch.{blankWindow, windowOf, lined, earliest, la
 use Rattle.model.specs.Line.{at, wide, frameIs, two}
 use Rattle.model.specs.Window.{WindowLine, windowLine, windowLines, windowIn, windowsOf, WithinWindows, endsOk, windowOk, jobRises, window}
 use Rattle.model.proofs.BoolLaws.{apart, both, and}
-use Rattle.model.proofs.ListLaws.{each-cons, each-nil, all-each, each-all, some-map, some-keep, count-some, some-count}
+use Rattle.model.proofs.ListLaws.{each-cons, each-nil, all-each, some-map, some-keep, some-count}
 use Rattle.model.proofs.SeqLaws.{listed-at}
 use Rattle.model.proofs.OutcomeLaws.{accept-eq, require-accepts, accepts-require}
 use Rattle.model.proofs.LineLaws.{IsByte, Bytes}

@@ -2,7 +2,7 @@
 -- statement is read out for every file and every list of runs, with the numbers of 02.
 use Prim.Native.Nat.{ℕ, _≤_, _<_}
 use mathlib.Core.Path.{_≡_, refl, ap, sym, _∙_, subst}
-use mathlib.Core.Logic.{_⊎_, inl, inr, _↔_, _≢_}
+use mathlib.Core.Logic.{_↔_, _≢_}
 use mathlib.Core.Option.{some}
 use mathlib.Core.List.{List}
 use native.Mathlib.Omega.{arith}
@@ -13,7 +13,7 @@ use Rattle.model.specs.declared.Search.{Search}
 use Rattle.model.specs.declared.Opened.{Opened}
 use Rattle.model.specs.declared.Ran.{Ran}
 use Rattle.model.specs.Common.{Outcome, refuse, accept}
-use Rattle.model.specs.Limits.{mostJobs, mostClashes}
+use Rattle.model.specs.Limits.{mostJobs}
 use Rattle.model.specs.Batch.{blankWindow, earliest, latest}
 use Rattle.model.specs.Plan.{start, KeepsDelays, KeepsEnds, latency}
 use Rattle.model.specs.Clash.{clashes}
@@ -29,7 +29,6 @@ use Rattle.model.proofs.OutcomeLaws.{refuse-as, refused}
 use Rattle.model.proofs.OpenLaws.{open-format, refused-10, best-plans, best-limits, after-batch, yields}
 use Rattle.model.proofs.FirstLaws.{ends01, open-first, open-second, open-3, refused-8, refused-20, plan01, no-plan01}
 use Rattle.planner.specs.Demands.{Called}
-use Rattle.planner.specs.Finish.{FileOf}
 use Rattle.planner.specs.Windows.{First, InEnds, Numbers, Q4}
 use Rattle.planner.proofs.Demands.{called-after}
 use Rattle.planner.proofs.Pins.{called-there}

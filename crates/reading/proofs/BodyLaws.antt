@@ -6,7 +6,6 @@ use native.Mathlib.Omega.{arith}
 use lib.ListN.{length, drop}
 use Rattle.model.specs.declared.Job.{Job}
 use Rattle.model.specs.declared.Delay.{Delay}
-use Rattle.model.specs.declared.Batch.{Batch}
 use Rattle.model.specs.Common.{Outcome, refuse, accept, _>>=_, pad}
 use Rattle.model.specs.Batch.{blankJob, blankDelay}
 use Rattle.model.specs.Format.{Further, batchOf}

@@ -15,14 +15,14 @@ use Rattle.model.specs.declared.Opening.the-variants.{Accepted, Refused}
 use Rattle.model.specs.Common.{if_then_else_, isEmpty, Outcome, refuse, accept, _>>=_, require, given}
 use Rattle.model.specs.Line.{readLine}
 use Rattle.model.specs.Window.{WindowLine, windowsOf, window}
-use Rattle.model.specs.Format.{Further, noFurther}
+use Rattle.model.specs.Format.{noFurther}
 use Rattle.model.specs.Open.{nothingLeft, readFurther, readRest}
 use Rattle.model.proofs.OutcomeLaws.{accepts-bind, accepts-require}
 use Rattle.reading.specs.declared.Next.the-variants.{At, Refused as Stopped}
 use Rattle.reading.specs.declared.windows.WindowsRead.{WindowsRead}
 use Rattle.reading.specs.declared.further.FurtherRead.{FurtherRead}
 use Rattle.reading.specs.declared.batch.BatchRead.{BatchRead}
-use Rattle.reading.specs.Answer.{answerOf, valueOf, placeOf, nextOf}
+use Rattle.reading.specs.Answer.{answerOf, valueOf}
 use Rattle.reading.specs.Window.{readWindows, windowsTold}
 use Rattle.reading.specs.Further.{furtherTold}
 use Rattle.reading.specs.Read.{batchTold, batchWith, readEnd}

@@ -2,7 +2,7 @@
 use Prim.Native.Nat.{ℕ, suc, _≤_, _<_}
 use mathlib.Core.Path.{_≡_, refl, ap, ap₂, sym, _∙_}
 use mathlib.Core.Bool.{Bool, true, false, not, _&&_}
-use mathlib.Core.List.{List, [], _∷_, _++_, map}
+use mathlib.Core.List.{List, [], _∷_, _++_}
 use native.Mathlib.Omega.{arith}
 use native.Mathlib.Decide.{ℕ-discrete}
 use lib.ListN.{length, getD, set, length-set}
@@ -10,7 +10,7 @@ use lib.Seq.{ext-getD, getD-set-same, getD-set-other}
 use lib.Dec.{leb, ltb, eqb}
 use borrow.Author.Tests.{leb-true, ltb-true, ltb-false, lt-ltb, le-ltb, le-leb, lt-leb, eq-eqb, ne-eqb}
 use Rattle.model.specs.declared.Window.{Window}
-use Rattle.model.specs.Common.{if_then_else_, all, count, Outcome, accept, _>>=_, require}
+use Rattle.model.specs.Common.{if_then_else_, all, accept, _>>=_}
 use Rattle.model.specs.Batch.{blankWindow}
 use Rattle.model.specs.Line.{at as byteOf, wide as wideOf, frameIs}
 use Rattle.model.specs.Window.{WindowLine, windowIn, windowsOf, endsOk, jobRises, window}

@@ -1,4 +1,5 @@
-// Whether some starts meet a batch's delays and ends: they do exactly where the delays alone have least starts. No least start passes 43,000.
+// Whether some starts meet a batch's delays and ends: they do exactly where the delays, with no turn, have least starts between the ends. No least start passes
+// 43,000.
 use crate::rounds::rounds;
 use crate::table::put_delays;
 use model::Batch;

@@ -5,7 +5,7 @@ use Prim.Native.Nat.{ℕ, zero, suc, _+_, _-_, _≤_, _<_, max}
 use native.Mathlib.Omega.{arith}
 use native.Mathlib.Decide.{decLt, ℕ-discrete}
 use native.Mathlib.Numerals.{add-one}
-use lib.ListN.{getD, set, length, replicate, List·getD-eq-default}
+use lib.ListN.{getD, set, length, List·getD-eq-default}
 use lib.Seq.{getD-set-same, getD-set-other}
 use Rattle.model.specs.declared.Batch.{Batch}
 use Rattle.model.specs.Common.{count, pad}
@@ -13,9 +13,9 @@ use Rattle.model.specs.Batch.{jobOf, ticks}
 use Rattle.model.specs.Plan.{start, stay, finish, latency}
 use Rattle.times.specs.Fill.{Small}
 use Rattle.times.specs.Stays.{staysRead}
-use Rattle.times.specs.Latency.{latencyOf, longestOf}
+use Rattle.times.specs.Latency.{latencyOf}
 use Rattle.model.proofs.FinishLaws.{stay-short}
-use Rattle.model.proofs.SeqLaws.{listed-snoc, listed-cong, blanks-at, pad-at}
+use Rattle.model.proofs.SeqLaws.{listed-snoc, pad-at}
 use Rattle.times.proofs.FillLaws.{filled-at, filled-past}
 
 -- ---- the code's loop
@@ -76,11 +76,6 @@ module _ (ps ss : List ℕ) (j v : ℕ) (inside : j < length ss) (up : getD ss j
       go (yes e) rec = rw (← e) (omega (arith, latency-before j (omega arith), getD-set-same ss j v 0 inside))
       go (no e) rec = omega (arith, rec (omega arith), getD-set-other ss j k v 0 (λ g. e (sym g)))
 
--- without stays it is 0
-pub longest-none : 0 ≡ longestOf (replicate 24 0)
-unfolding longestOf latencyOf
-longest-none = refl
-
 -- ---- the definition
 
 most-snoc : (xs : List ℕ) (x : ℕ) → foldr max 0 (xs ++ (x ∷ [])) ≡ max (foldr max 0 xs) x
@@ -133,10 +128,3 @@ module _ (b : Batch) (few : b .n ≤ 24) where
 
   pub latency-padded : (ts : List ℕ) → length ts ≡ b .n → latencyOf (staysRead b) (pad 24 0 ts) 24 ≡ latency b ts
   latency-padded ts l = latency-whole (pad 24 0 ts) ts (pad-at 24 0 ts) (omega arith)
-
-  -- the latency of starts that are all 0 is the longest stay
-  pub longest-is : longestOf (staysRead b) ≡ foldr max 0 (map (λ i. stay (jobOf b i)) (count 0 (b .n)))
-  unfolding longestOf latency finish start
-  longest-is =
-      latency-whole (replicate 24 0) [] (λ i. blanks-at {A = ℕ} 24 i 0) (omega arith)
-      ∙ ap (foldr max 0) (listed-cong (λ i. finish b i (start [] i)) (λ i. stay (jobOf b i)) (b .n) (λ i p. omega arith))

@@ -1,7 +1,7 @@
 -- The latency of the first k starts, with the jobs' stays in an array, and a latency that starts raise.
 use Prim.Native.Nat.{ℕ, zero, suc, _+_, max}
 use mathlib.Core.List.{List}
-use lib.ListN.{getD, replicate}
+use lib.ListN.{getD}
 
 -- the largest finish of the first k jobs
 unfoldable pub latencyOf : List ℕ → List ℕ → ℕ → ℕ
@@ -11,7 +11,3 @@ latencyOf stays starts (suc k) = max (latencyOf stays starts k) (getD starts k 0
 -- the largest of a latency and that of 24 starts
 unfoldable pub raisedBy : List ℕ → List ℕ → ℕ → ℕ
 raisedBy stays starts latency = max latency (latencyOf stays starts 24)
-
--- the latency of starts that are all 0: the longest stay
-unfoldable pub longestOf : List ℕ → ℕ
-longestOf stays = latencyOf stays (replicate 24 0) 24

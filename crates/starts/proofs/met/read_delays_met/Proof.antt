@@ -1,7 +1,6 @@
 -- `read_delays_met` meets its contract: the arrays that are read hold the delays, no job stays, and the rounds begin at the earliest starts.
 use borrow.Author.Needs.{needs}
 use native.Mathlib.Omega.{arith}
-use Prim.Native.Nat.{ℕ}
 use Rattle.starts.specs.Table.{emptyTable}
 use Rattle.times.proofs.FillLaws.{zeros-small}
 use Rattle.starts.proofs.Law.{fours-high}

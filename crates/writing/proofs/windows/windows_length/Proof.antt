@@ -6,7 +6,7 @@ use borrow.Author.Needs.{needs}
 use lib.ListN.{length}
 use Rattle.model.specs.Common.{count, joined}
 use Rattle.writing.proofs.Pieces.{pieces, pieces-length}
-use Rattle.writing.proofs.Texts.{linePiece, windows-text, readWindow, read-window, piece-length}
+use Rattle.writing.proofs.Texts.{linePiece, windows-text, read-window, piece-length}
 use Rattle.writing.proofs.windows.windows_length.Statement.{statement}
 use Rattle.writing.proofs.windows.windows_length.Tie as tie
 
