@@ -32,6 +32,7 @@ use Rattle.model.specs.Format.{headerLine, furtherOf, noFurther, hasNone
 use Rattle.model.specs.Line.{at, frameIs, line}
 use Rattle.model.specs.Open.{editionOk, countsOk, fewClashes, delaysMet, header, job, delay, due, readOne, readAll, readRest, readFile, openFile}
 use Rattle.model.specs.First.{Valid01, Shortest01, first01, least01, node01, nodesOn01, nodes01, met01, header01, readFile01, openFile01, Begins}
+use Rattle.model.specs.All.{definitions}
 use Rattle.model.specs.Sound.{soundEdition, soundFurther, sound}
 use Rattle.model.specs.Answers.{plan, noPlan, runTold}
 use Rattle.model.specs.Calls.{Call, call, after as after-calls}
@@ -500,6 +501,11 @@ open01 file = by (begins-02 file)
     by : Dec (Begins 2 file) → ((¬ Begins 2 file) × (openFile file ≡ openFile01 file)) ⊎ (Begins 2 file × (openFile01 file ≡ refuse 3) × (openFile file ≡ refuse 3 → ⊥))
     by (yes h) = let r = open-second file h in inr (h, r .0, r .1)
     by (no h) = inl (h, open-first file h)
+
+-- with counts out of limits too: edition 02 without a job is 4 today and 3 in 01, which asks the edition first
+pub counts-02 : (openFile (headerLine 2 0 0) ≡ refuse 4) × (openFile01 (headerLine 2 0 0) ≡ refuse 3)
+unfolding definitions
+counts-02 = (refl, refl)
 
 -- ---- 8 is for edition 01 only, and 20 for 02
 
