@@ -13,17 +13,17 @@ use lib.ListN.{length, getD, replicate, take, length-replicate}
 use lib.IntN.{pos}
 use lib.Dec.{leb, eqb}
 use lib.Seq.{ext-getD}
-use borrow.Author.Tests.{leb-true, le-leb, eqb-true, eqb-false, eq-eqb}
+use borrow.Author.Tests.{leb-true, le-leb, eqb-true}
 use Rattle.model.specs.declared.Batch.{Batch}
 use Rattle.model.specs.declared.Delay.{Delay}
 use Rattle.model.specs.declared.Job.{Job}
 use Rattle.model.specs.declared.Turn.{Turn}
 use Rattle.model.specs.declared.Search.{Search}
 use Rattle.model.specs.declared.Window.{Window}
-use Rattle.model.specs.Common.{if_then_else_, all, count, keep, isEmpty, isSome, Outcome, refuse, accept, _>>=_, require}
+use Rattle.model.specs.Common.{if_then_else_, count, keep, isEmpty, isSome, Outcome, refuse, accept, _>>=_, require}
 use Rattle.model.specs.Limits.{mostJobs, mostWeight, mostClashes, mostLatency, noLatest}
-use Rattle.model.specs.Batch.{blankWindow, delaysOf, windowOf, lined, earliest, latest, earliestStarts, latestStarts}
-use Rattle.model.specs.Plan.{start, Keeps, KeepsDelays, KeepsStations, KeepsEnds, Valid, Shortest, latency}
+use Rattle.model.specs.Batch.{blankWindow, windowOf, lined, earliest, latest, earliestStarts, latestStarts}
+use Rattle.model.specs.Plan.{start, Keeps, KeepsDelays, KeepsEnds, Valid, Shortest, latency}
 use Rattle.model.specs.Clash.{clashes}
 use Rattle.model.specs.Starts.{rounds, same, inTime, leastStarts, Solution}
 use Rattle.model.specs.Search.{noClash, turned, inequalities, startsAt, firstMet, visit, next, turnsOf, placeOf, searchOf, freshSearch, node, nodesOn, nodes}
@@ -41,13 +41,13 @@ use Rattle.model.proofs.ListLaws.{all-each, each-all, each-nil, each-co
 use Rattle.model.proofs.SeqLaws.{getD-in, blanks-at}
 use Rattle.model.proofs.OutcomeLaws.{refused, accept-eq, bind-accepts, require-accepts}
 use Rattle.model.proofs.RefusalLaws.{Only, InLines, only-first, only-open}
-use Rattle.model.proofs.LineLaws.{IsByte, Bytes, read-back}
+use Rattle.model.proofs.LineLaws.{IsByte, read-back}
 use Rattle.model.proofs.LimitLaws.{edition-iff, counts-iff, leZ-iff}
 use Rattle.model.proofs.ReadLaws.{due-line, line-due, one-back}
 use Rattle.model.proofs.FrameLaws.{header-framing, frame-iff, at-each, at-byte}
 use Rattle.model.proofs.WindowLaws.{window-ok, window-soon}
 use Rattle.model.proofs.FinishLaws.{latency-mono, finish-latency}
-use Rattle.model.proofs.StartsLaws.{Inside, after, rounds-length, least-round, least-below, least-found, same-refl, ends-length, earliest-at, latest-at, inside-ends}
+use Rattle.model.proofs.StartsLaws.{after, rounds-length, least-round, least-below, least-found, same-refl, ends-length, earliest-at, latest-at, inside-ends}
 use Rattle.model.proofs.ClashLaws.{Unmet, apart-unmet}
 use Rattle.model.proofs.BackLaws.{numbers}
 use Rattle.model.proofs.NodeLaws.{Fits, Named, each, all-inside, unmet-side, met-first, met-new, valid-found}
@@ -56,7 +56,7 @@ use Rattle.model.proofs.BoundLaws.{after-bound, all-slow, latency-bound
 use Rattle.model.proofs.EndLaws.{node-at}
 use Rattle.model.proofs.SoundLaws.{Passes, passes-fit, SoundBest, sound-new, SoundAt, sound-at, record-passes}
 use Rattle.model.proofs.FileLaws.{read-format, open-read}
-use Rattle.model.proofs.OpenLaws.{open-format, file-passes, answer-shortest, answer-none}
+use Rattle.model.proofs.OpenLaws.{file-passes, answer-shortest, answer-none}
 
 -- ---- the ends of edition 01
 

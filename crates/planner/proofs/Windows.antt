@@ -31,7 +31,6 @@ use Rattle.model.proofs.OutcomeLaws.{refuse-as, refused}
 use Rattle.model.proofs.OpenLaws.{open-format, refused-10, best-plans, best-limits, after-batch, yields}
 use Rattle.model.proofs.FirstLaws.{ends01, open-first, open-second, open-3, refused-8, refused-20, search01, plan01, no-plan01}
 use Rattle.planner.specs.Demands.{Called}
-use Rattle.planner.specs.Finish.{FileOf}
 use Rattle.planner.specs.Windows.{First, InEnds, Numbers, Q4}
 use Rattle.planner.proofs.Demands.{called-after, demands}
 use Rattle.planner.proofs.Pins.{called-there}
