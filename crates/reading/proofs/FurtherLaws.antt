@@ -125,7 +125,8 @@ module _ (file : List ℕ) (edition n at : ℕ) (first : edition ≡ 1) where
       t ∙ ap furtherTold (sym (rest-first ∙ refuses-require 8 _ (end-more (drop at file) (omega (arith, length-drop at file)))))
 
   -- nothing after it
-  pub rest-none : length file ≤ at → (windows : List Window) → windows ≡ windowsOf [] → _≡_ {A = FurtherRead} (record { answer = Accepted; windows = windows }) (furtherTold (readRest edition n (drop at file)))
+  pub rest-none : length file ≤ at → (windows : List Window) → windows ≡ windowsOf []
+      → _≡_ {A = FurtherRead} (record { answer = Accepted; windows = windows }) (furtherTold (readRest edition n (drop at file)))
   unfolding furtherTold answerOf valueOf noFurther
   rest-none l windows e =
       ap (λ (x : List Window). record { answer = Accepted; windows = x }) e
@@ -144,7 +145,8 @@ module _ (edition n m : ℕ) (jobs : List Job) (delays : List Delay) (rest : Lis
   end-refused k h r t = t ∙ ap batchTold (sym (refuses-bind _ (answer-refused _ k (sym answer-is ∙ h))))
 
   -- the batch
-  pub end-read : f .answer ≡ Accepted → (word : ℕ) → word ≡ edition → _≡_ {A = BatchRead} (record { answer = Accepted; batch = record { n = n; m = m; edition = word; jobs = jobs; delays = delays; windows = f .windows } }) (batchTold (readEnd edition n m jobs delays rest))
+  pub end-read : f .answer ≡ Accepted → (word : ℕ) → word ≡ edition
+      → _≡_ {A = BatchRead} (record { answer = Accepted; batch = record { n = n; m = m; edition = word; jobs = jobs; delays = delays; windows = f .windows } }) (batchTold (readEnd edition n m jobs delays rest))
   unfolding readEnd batchTold batchWith furtherTold answerOf valueOf
   end-read h word e =
       ap₂ (λ (x : ℕ) (y : List Window). record { answer = Accepted; batch = record { n = n; m = m; edition = x; jobs = jobs; delays = delays; windows = y } }) e (ap (λ (x : FurtherRead). x .windows) read)

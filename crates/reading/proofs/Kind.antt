@@ -37,12 +37,14 @@ module _ {A : Type 0} (kind : ℕ) (frame : List A → List ℕ → Outcome A) w
     step-broken (c ∷ cs) l e = rw e
 
     module _ (f after : List ℕ) where
-      step-other : (rest : List ℕ) → 0 < length rest → given 1 (readLine rest) ≡ accept (f, after) → eqb (byteOf f 0) kind ≡ false → readKind kind frame (suc k) items rest ≡ accept (items, rest)
+      step-other : (rest : List ℕ) → 0 < length rest → given 1 (readLine rest) ≡ accept (f, after) → eqb (byteOf f 0) kind ≡ false
+          → readKind kind frame (suc k) items rest ≡ accept (items, rest)
       unfolding readKind
       step-other [] l e t = absurd (omega arith)
       step-other (c ∷ cs) l e t = accepts-bind _ e ∙ rw t
 
-      step-line : (rest : List ℕ) → 0 < length rest → given 1 (readLine rest) ≡ accept (f, after) → eqb (byteOf f 0) kind ≡ true → readKind kind frame (suc k) items rest ≡ (frame items f >>= λ x. readKind kind frame k (items ++ (x ∷ [])) after)
+      step-line : (rest : List ℕ) → 0 < length rest → given 1 (readLine rest) ≡ accept (f, after) → eqb (byteOf f 0) kind ≡ true
+          → readKind kind frame (suc k) items rest ≡ (frame items f >>= λ x. readKind kind frame k (items ++ (x ∷ [])) after)
       unfolding readKind
       step-line [] l e t = absurd (omega arith)
       step-line (c ∷ cs) l e t = accepts-bind _ e ∙ rw t

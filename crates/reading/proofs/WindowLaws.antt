@@ -96,7 +96,8 @@ all-more g [] w = go (g w)
     go false = refl
 all-more g (v ∷ ws) w = go (g v) (all-more g ws w)
   where
-    go : (t : Bool) → all g (ws ++ (w ∷ [])) ≡ (all g ws && g w) → _≡_ {A = Bool} (elim t [ true ↦ all g (ws ++ (w ∷ [])) | false ↦ false ]) (elim t [ true ↦ all g ws | false ↦ false ] && g w)
+    go : (t : Bool) → all g (ws ++ (w ∷ [])) ≡ (all g ws && g w)
+        → _≡_ {A = Bool} (elim t [ true ↦ all g (ws ++ (w ∷ [])) | false ↦ false ]) (elim t [ true ↦ all g ws | false ↦ false ] && g w)
     go true e = e
     go false e = refl
 
@@ -127,7 +128,8 @@ in-own (v ∷ ws) w h = go (ltb (v .job) (w .job)) refl h (in-own ws w)
     go false e h rec = apart h
 
 -- the places with one line more
-pub windows-more : (low : ℕ) (ws : List WindowLine) (w : WindowLine) → Lowest low ws → low ≤ w .job → w .job < 24 → set (windowsOf ws) (w .job) (placed w) ≡ windowsOf (ws ++ (w ∷ []))
+pub windows-more : (low : ℕ) (ws : List WindowLine) (w : WindowLine) → Lowest low ws → low ≤ w .job → w .job < 24
+    → set (windowsOf ws) (w .job) (placed w) ≡ windowsOf (ws ++ (w ∷ []))
 unfolding windowsOf Lowest
 windows-more low ws w lowest h m =
     ext-getD blankWindow (set (windowsOf ws) (w .job) (placed w)) (windowsOf (ws ++ (w ∷ []))) (length-set (windowsOf ws) (w .job) (placed w) ∙ size ws ∙ sym (size (ws ++ (w ∷ []))))

@@ -43,7 +43,8 @@ module _ (file : List ℕ) (n start : ℕ) where
 
   module _ {at low : ℕ} {array : List Window} (w : Windows at low array) where
     -- the answer for lines that end at a place
-    whole : at ≤ length file → readWindows n (drop start file) ≡ accept (w .lines, drop at file) → _≡_ {A = WindowsRead} (record { answer = At at; windows = array }) (windowsTold file (readWindows n (drop start file)))
+    whole : at ≤ length file → readWindows n (drop start file) ≡ accept (w .lines, drop at file)
+        → _≡_ {A = WindowsRead} (record { answer = At at; windows = array }) (windowsTold file (readWindows n (drop start file)))
     unfolding windowsTold nextOf valueOf
     whole l e =
         ap₂ (λ (p : ℕ) (s : List Window). record { answer = At p; windows = s }) (sym (place-drop file at l)) (w .filled) ∙ ap (windowsTold file) (sym e)

@@ -144,7 +144,8 @@ pub front-none : (buffer : List ℕ) → Front buffer [] 0 buffer
 front-none buffer = record { place = refl; buffer-is = sym (put-nothing buffer 0) }
 
 -- one more
-pub front-more : {buffer text after last : List ℕ} {next place size : ℕ} (more : List ℕ) → Front buffer text next after → length text + length more ≤ length buffer → length more ≡ size → place ≡ next + size → last ≡ overwritten after next more → Front buffer (text ++ more) place last
+pub front-more : {buffer text after last : List ℕ} {next place size : ℕ} (more : List ℕ) → Front buffer text next after → length text + length more ≤ length buffer
+    → length more ≡ size → place ≡ next + size → last ≡ overwritten after next more → Front buffer (text ++ more) place last
 front-more {buffer} {text} more f fits s p e =
     record {
       place = omega (arith, length-append text more, f .place);

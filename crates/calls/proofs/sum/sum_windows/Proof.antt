@@ -15,4 +15,4 @@ sum-windows-spec =
     tie.close
     (tie.spec Inv-loop μ-loop
     (search needs) (search needs) (search needs) (search needs) (search needs) (search needs)
-    (search needs) (search needs) (search needs) (search needs) (search needs))
+    (search needs) (search needs) (search needs) (search needs) (search needs) (search needs) (search needs))
