@@ -156,7 +156,7 @@ module _ (b : Batch) (fits : Fits b) (I : Incumbent → Type 0) (new : (ts : Lis
       ap (λ (c : Batch). placeOf (searchOf c (s .total + 1) (next (clashes b) c (placeOf s)))) (a .batch)
       ∙ place-search b fits (s .total + 1) (next (clashes b) b (placeOf s)) (step s a .good .turns)
 
-  node-at : (s : Search) → At s → At (node (clashes b) s)
+  pub node-at : (s : Search) → At s → At (node (clashes b) s)
   unfolding node searchOf
   node-at s a = record { batch = a .batch; good = subst (Good b fits I new) (sym (node-place s a)) (step s a .good) }
 

@@ -18,6 +18,7 @@ use Rattle.model.specs.declared.Batch.{Batch}
 use Rattle.model.specs.declared.Delay.{Delay}
 use Rattle.model.specs.declared.Job.{Job}
 use Rattle.model.specs.declared.Turn.{Turn}
+use Rattle.model.specs.declared.Search.{Search}
 use Rattle.model.specs.declared.Window.{Window}
 use Rattle.model.specs.Common.{if_then_else_, count, keep, isEmpty, isSome, Outcome, refuse, accept, _>>=_, require}
 use Rattle.model.specs.Limits.{mostJobs, mostWeight, mostClashes, mostLatency, noLatest}
@@ -25,13 +26,14 @@ use Rattle.model.specs.Batch.{blankWindow, windowOf, lined, earliest, la
 use Rattle.model.specs.Plan.{start, Keeps, KeepsDelays, KeepsEnds, Valid, Shortest, latency}
 use Rattle.model.specs.Clash.{clashes}
 use Rattle.model.specs.Starts.{rounds, same, inTime, leastStarts, Solution}
-use Rattle.model.specs.Search.{noClash, turned, inequalities, startsAt, firstMet, freshSearch}
+use Rattle.model.specs.Search.{noClash, turned, inequalities, startsAt, firstMet, visit, next, turnsOf, placeOf, searchOf, freshSearch, node, nodesOn, nodes}
 use Rattle.model.specs.Window.{WindowLine, windowLine, windowLines, windowIn, windowsOf, endsOk, windowOk}
 use Rattle.model.specs.Format.{headerLine, furtherOf, noFurther, hasNone, Edition, Within, batchOf, blanked, BatchFile}
 use Rattle.model.specs.Line.{at, frameIs, line}
 use Rattle.model.specs.Open.{editionOk, countsOk, fewClashes, delaysMet, header, job, delay, due, readOne, readAll, readRest, readFile, openFile}
-use Rattle.model.specs.First.{Valid01, Shortest01, first01, least01, met01, header01, readFile01, openFile01, Begins}
-use Rattle.model.specs.Sound.{soundEdition, soundFurther}
+use Rattle.model.specs.First.{Valid01, Shortest01, first01, least01, node01, nodesOn01, nodes01, met01, header01, readFile01, openFile01, Begins}
+use Rattle.model.specs.All.{definitions}
+use Rattle.model.specs.Sound.{soundEdition, soundFurther, sound}
 use Rattle.model.specs.Answers.{plan, noPlan, runTold}
 use Rattle.model.specs.Calls.{Call, call, after as after-calls}
 use Rattle.model.proofs.BoolLaws.{apart, both, decide, and-true}
@@ -49,8 +51,10 @@ use Rattle.model.proofs.StartsLaws.{after, rounds-length, least-round, 
 use Rattle.model.proofs.ClashLaws.{Unmet, apart-unmet}
 use Rattle.model.proofs.BackLaws.{numbers}
 use Rattle.model.proofs.NodeLaws.{Fits, Named, each, all-inside, unmet-side, met-first, met-new, valid-found}
+use Rattle.model.proofs.GoodLaws.{good-named}
 use Rattle.model.proofs.BoundLaws.{after-bound, all-slow, latency-bound}
-use Rattle.model.proofs.SoundLaws.{Passes, passes-fit}
+use Rattle.model.proofs.EndLaws.{node-at}
+use Rattle.model.proofs.SoundLaws.{Passes, passes-fit, SoundBest, sound-new, SoundAt, sound-at, record-passes}
 use Rattle.model.proofs.FileLaws.{read-format, open-read}
 use Rattle.model.proofs.OpenLaws.{file-passes, answer-shortest, answer-none}
 
@@ -280,6 +284,26 @@ module _ (b : Batch) (passes : Passes b) (one : b .edition ≡ 1) where
   pub starts01 : (ts : List Turn) → Named b ts → startsAt (clashes b) b ts ≡ least01 (b .n) (inequalities (clashes b) b ts)
   starts01 = plain-starts b (passes-fit b passes) (sound-ends01 b passes one)
 
+  -- so each node is 01's, and so are the records that any number of nodes reach
+  node-first : (s : Search) → SoundAt b passes s → node (clashes b) s ≡ node01 (clashes b) s
+  unfolding node node01 next placeOf
+  node-first s a =
+      ap (λ (o : Option (List ℕ)). searchOf (s .batch) (s .total + 1) (visit (clashes b) (s .batch) (placeOf s) o))
+      (subst (λ (c : Batch). startsAt (clashes b) c (turnsOf (s .path)) ≡ least01 (c .n) (inequalities (clashes b) c (turnsOf (s .path)))) (sym (a .batch))
+      (starts01 (turnsOf (s .path)) (good-named b (turnsOf (s .path)) (a .good .turns))))
+
+  nodes-first : (k : ℕ) (s : Search) → SoundAt b passes s → nodesOn (clashes b) k s ≡ nodesOn01 (clashes b) k s
+  unfolding nodesOn nodesOn01
+  nodes-first zero s a = refl
+  nodes-first (suc k) s a =
+      go (s .ended)
+      (nodes-first k (node (clashes b) s) (node-at b (passes-fit b passes) (SoundBest b) (sound-new b (passes-fit b passes)) s a) ∙ ap (nodesOn01 (clashes b) k) (node-first s a))
+    where
+      go : (t : Bool) → nodesOn (clashes b) k (node (clashes b) s) ≡ nodesOn01 (clashes b) k (node01 (clashes b) s)
+          → _≡_ {A = Search} (elim t [ true ↦ s | false ↦ nodesOn (clashes b) k (node (clashes b) s) ]) (elim t [ true ↦ s | false ↦ nodesOn01 (clashes b) k (node01 (clashes b) s) ])
+      go true rec = refl
+      go false rec = rec
+
   -- the latest start never matters: no least start passes 23,000
   pub bound01 : (ts : List Turn) → Named b ts → (ss : List ℕ) → startsAt (clashes b) b ts ≡ some ss → (j : ℕ) → start ss j ≤ 23000
   bound01 ts named ss e = plain-bound b (passes-fit b passes) (sound-ends01 b passes one) ts named ss (sym (starts01 ts named) ∙ e)
@@ -292,6 +316,11 @@ module _ (b : Batch) (passes : Passes b) (one : b .edition ≡ 1) where
 
   pub none01 : ((ts : List ℕ) → ¬ Valid b ts) ↔ ((ts : List ℕ) → ¬ Valid01 b ts)
   none01 = plain-none b (passes-fit b passes) (sound-ends01 b passes one)
+
+-- a search of edition 01 is 01's search, from any sound record on
+pub search01 : (s : Search) → sound s ≡ true → s .batch .edition ≡ 1 → (k : ℕ) → nodes k s ≡ nodes01 k s
+unfolding nodes nodes01
+search01 s e one k = let p = record-passes s e in nodes-first (s .batch) p one k s (sound-at (s .batch) p s refl e .0)
 
 -- ---- opening
 
@@ -472,6 +501,11 @@ open01 file = by (begins-02 file)
     by : Dec (Begins 2 file) → ((¬ Begins 2 file) × (openFile file ≡ openFile01 file)) ⊎ (Begins 2 file × (openFile01 file ≡ refuse 3) × (openFile file ≡ refuse 3 → ⊥))
     by (yes h) = let r = open-second file h in inr (h, r .0, r .1)
     by (no h) = inl (h, open-first file h)
+
+-- with counts out of limits too: edition 02 without a job is 4 today and 3 in 01, which asks the edition first
+pub counts-02 : (openFile (headerLine 2 0 0) ≡ refuse 4) × (openFile01 (headerLine 2 0 0) ≡ refuse 3)
+unfolding definitions
+counts-02 = (refl, refl)
 
 -- ---- 8 is for edition 01 only, and 20 for 02
 

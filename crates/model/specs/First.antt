@@ -1,18 +1,21 @@
 -- Document 01 alone, in the words that stood before request Q-4 of 02: one edition, nothing after the delays, and starts with no ends. model/proofs/FirstLaws says
 -- what today's definitions make of a file of edition 01, and of every sound record of it: this, and nothing else.
-use Prim.Native.Nat.{ℕ, _≤_, _<_, pred}
+use Prim.Native.Nat.{ℕ, zero, suc, _+_, _≤_, _<_, pred}
 use mathlib.Core.Path.{_≡_}
-use mathlib.Core.Bool.{Bool}
+use mathlib.Core.Bool.{Bool, true, false}
 use mathlib.Core.List.{List, _++_}
 use mathlib.Core.Option.{Option, none, some}
 use lib.ListN.{length, replicate}
 use lib.Dec.{eqb}
 use Rattle.model.specs.declared.Delay.{Delay}
 use Rattle.model.specs.declared.Batch.{Batch}
+use Rattle.model.specs.declared.Search.{Search}
 use Rattle.model.specs.Common.{if_then_else_, isEmpty, isSome, Outcome, accept, _>>=_, require}
 use Rattle.model.specs.Batch.{delaysOf}
 use Rattle.model.specs.Plan.{KeepsDelays, KeepsStations, latency}
+use Rattle.model.specs.Clash.{Clash, clashes}
 use Rattle.model.specs.Starts.{rounds, same}
+use Rattle.model.specs.Search.{inequalities, visit, placeOf, searchOf}
 use Rattle.model.specs.Line.{at, frameIs}
 use Rattle.model.specs.Format.{headerLine, noFurther, batchOf}
 use Rattle.model.specs.Open.{countsOk, fewClashes, job, delay, readOne, readAll}
@@ -38,6 +41,22 @@ unfoldable pub least01 : ℕ → List Delay → Option (List ℕ)
 least01 n qs =
     let last = rounds qs (first01 n) n in
     if same last (rounds qs (first01 n) (pred n)) then some last else none
+
+-- ---- the search: its nodes with these least starts
+
+unfoldable pub node01 : List Clash → Search → Search
+node01 cs s =
+    let b = s .batch in
+    let p = placeOf s in
+    searchOf b (s .total + 1) (visit cs b p (least01 (b .n) (inequalities cs b (p .turns))))
+
+-- nodes until ended or k are visited
+unfoldable pub nodesOn01 : List Clash → ℕ → Search → Search
+nodesOn01 cs zero s = s
+nodesOn01 cs (suc k) s = elim (s .ended) [ true ↦ s | false ↦ nodesOn01 cs k (node01 cs s) ]
+
+unfoldable pub nodes01 : ℕ → Search → Search
+nodes01 k s = nodesOn01 (clashes (s .batch)) k s
 
 -- ---- opening: in the header 3 where the edition is not 01; after the delays 8 where something is left, then 9, and 10 where the delays cannot be met
 

@@ -3,6 +3,7 @@
 use Prim.Native.Nat.{ℕ, _≤_, _<_}
 use mathlib.Core.Path.{_≡_, refl, ap, sym, _∙_, subst}
 use mathlib.Core.Logic.{_↔_, _≢_}
+use mathlib.Core.Bool.{true, false}
 use mathlib.Core.Option.{some}
 use mathlib.Core.List.{List}
 use native.Mathlib.Omega.{arith}
@@ -14,23 +15,24 @@ use Rattle.model.specs.declared.Opened.{Opened}
 use Rattle.model.specs.declared.Ran.{Ran}
 use Rattle.model.specs.Common.{Outcome, refuse, accept}
 use Rattle.model.specs.Limits.{mostJobs}
-use Rattle.model.specs.Batch.{blankWindow, earliest, latest}
+use Rattle.model.specs.Batch.{blankWindow, lined, earliest, latest}
 use Rattle.model.specs.Plan.{start, KeepsDelays, KeepsEnds, latency}
 use Rattle.model.specs.Clash.{clashes}
 use Rattle.model.specs.Search.{freshSearch}
 use Rattle.model.specs.Format.{BatchFile}
 use Rattle.model.specs.Open.{readFile, openFile, openedAs, opened}
-use Rattle.model.specs.First.{Valid01, Shortest01, openFile01, Begins}
-use Rattle.model.specs.Run.{ran}
+use Rattle.model.specs.First.{Valid01, Shortest01, nodes01, openFile01, Begins}
+use Rattle.model.specs.Sound.{sound}
+use Rattle.model.specs.Run.{runRefusal, ran}
 use Rattle.model.specs.Answers.{plan, noPlan, runTold, openTold, bestTold}
 use Rattle.model.specs.Calls.{Call, call, after}
 use Rattle.model.specs.Demands.{PlanWith}
 use Rattle.model.proofs.OutcomeLaws.{refuse-as, refused}
 use Rattle.model.proofs.OpenLaws.{open-format, refused-10, best-plans, best-limits, after-batch, yields}
-use Rattle.model.proofs.FirstLaws.{ends01, open-first, open-second, open-3, refused-8, refused-20, plan01, no-plan01}
+use Rattle.model.proofs.FirstLaws.{ends01, open-first, open-second, open-3, refused-8, refused-20, search01, plan01, no-plan01}
 use Rattle.planner.specs.Demands.{Called}
 use Rattle.planner.specs.Windows.{First, InEnds, Numbers, Q4}
-use Rattle.planner.proofs.Demands.{called-after}
+use Rattle.planner.proofs.Demands.{called-after, demands}
 use Rattle.planner.proofs.Pins.{called-there}
 use Rattle.planner.proofs.Finish.{form-iff}
 
@@ -97,6 +99,8 @@ q4 =
     record {
       first = λ file o e other. e ∙ ap openedAs (open-first file other);
       runs-first = λ file o e b f one cs s h. first-at file b f cs s (subst (λ (x : Opened). Called (x .search) cs s) e h) one;
+      nodes-first = λ s e one budget list granted r list′ m.
+          demands .demand-1 .running s budget list r list′ m .reached granted .0 ∙ search01 s e one budget;
       starts = λ file o e b f cs s h. starts-at file b f cs s (subst (λ (x : Opened). Called (x .search) cs s) e h);
       ten = λ file b f few o e.
           let r = refused-10 file b (form-iff file b .0 f) few in
@@ -119,6 +123,10 @@ module _ (q : Q4) where
       let told = ap (λ (o : Opened). openTold (o .answer)) e ∙ ap (λ (o : Outcome Batch). openTold (openedAs o .answer)) z in
       q .numbers file (opened file) refl .three 2 (omega arith) h .0 told .1 refl
 
+  -- and every run that is not refused, from every sound record of edition 01, is 01's
+  pub every-run01 : (s : Search) → sound s ≡ true → s .batch .edition ≡ 1 → (budget : ℕ) (list : List ℕ) → runRefusal s budget (length list) ≡ accept tt → ran s budget list .0 .search ≡ nodes01 budget s
+  every-run01 s e one budget list granted = let x = ran s budget list in q .nodes-first s e one budget list granted (x .0) (x .1) refl
+
   -- edition 01, after every list of runs: every place's ends, every plan, and that there is none
   module _ (file : List ℕ) (b : Batch) (f : BatchFile file b) (cs : List Call) where
     abbrev s : Search
@@ -134,8 +142,8 @@ module _ (q : Q4) where
       pub every-place : s .batch .windows ≡ replicate mostJobs blankWindow
       every-place = here .windows
 
-      pub every-end : (i : ℕ) → (earliest (s .batch) i ≡ 0) × (latest (s .batch) i ≡ 65535)
-      every-end i = let e = here .ends i in (e .1, e .2)
+      pub every-end : (i : ℕ) → (lined (s .batch) i ≡ false) × (earliest (s .batch) i ≡ 0) × (latest (s .batch) i ≡ 65535)
+      every-end i = here .ends i
 
       pub every-plan01 : (c : Call) (l t : ℕ) → runTold (call s c .0 .answer) ≡ accept (plan l t) → (us : List ℕ) → Valid01 b us → l ≤ latency b us
       unfolding call

@@ -4,7 +4,7 @@
 use Prim.Native.Nat.{ℕ, _≤_, _<_}
 use mathlib.Core.Path.{_≡_}
 use mathlib.Core.Logic.{_↔_, _≢_}
-use mathlib.Core.Bool.{false}
+use mathlib.Core.Bool.{true, false}
 use mathlib.Core.Option.{some}
 use mathlib.Core.List.{List}
 use lib.ListN.{length, replicate, take}
@@ -19,8 +19,9 @@ use Rattle.model.specs.Plan.{start, KeepsDelays, KeepsEnds, latency}
 use Rattle.model.specs.Clash.{clashes}
 use Rattle.model.specs.Format.{BatchFile}
 use Rattle.model.specs.Open.{openedAs, opened}
-use Rattle.model.specs.First.{Valid01, Shortest01, openFile01, Begins}
-use Rattle.model.specs.Run.{ran}
+use Rattle.model.specs.First.{Valid01, Shortest01, nodes01, openFile01, Begins}
+use Rattle.model.specs.Sound.{sound}
+use Rattle.model.specs.Run.{runRefusal, ran}
 use Rattle.model.specs.Answers.{plan, noPlan, runTold, openTold, bestTold}
 use Rattle.model.specs.Calls.{Call}
 use Rattle.planner.specs.Demands.{Called}
@@ -58,6 +59,10 @@ pub record Q4 : Type 0 where
   -- and its search is one of document 01, after every list of runs
   pub runs-first :
       (file : List ℕ) (o : Opened) → o ≡ opened file → (b : Batch) → BatchFile file b → b .edition ≡ 1 → (cs : List Call) (s : Search) → Called (o .search) cs s → First b s
+  -- a run that is not refused goes on from any sound record of edition 01 by document 01's nodes
+  pub nodes-first :
+      (s : Search) → sound s ≡ true → s .batch .edition ≡ 1 → (budget : ℕ) (list : List ℕ) → runRefusal s budget (length list) ≡ accept tt
+      → (r : Ran) (list′ : List ℕ) → (r, list′) ≡ ran s budget list → r .search ≡ nodes01 budget s
   -- of either edition: best of a search opened here, after every list of runs
   pub starts :
       (file : List ℕ) (o : Opened) → o ≡ opened file → (b : Batch) → BatchFile file b → (cs : List Call) (s : Search) → Called (o .search) cs s
