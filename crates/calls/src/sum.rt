@@ -74,7 +74,10 @@ fn sum_windows(sum: u64, windows: [Window; 24]) -> u64 {
     let mut i: usize = 0;
     while i < 24 {
         let window = windows[i];
-        let ends = summed(summed(next, of_pair(window.lined)), of_pair(window.earliest));
+        let ends = summed(
+            summed(next, of_pair(window.lined)),
+            of_pair(window.earliest),
+        );
         next = summed(ends, of_pair(window.latest));
         i += 1;
     }

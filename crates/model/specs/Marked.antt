@@ -130,7 +130,7 @@ rows =
     ∷ opens "A0020201 A1010001 A1010002 A200010005 A30000030003 A30100000008" once 1 (planAt 9 1 (3 ∷ 8 ∷ []) ∷ [])
     -- earliest 20,000, and starts past 23,000 that a sound record may have: the second run is not refused
     ∷ opens "A0020504 A1010001 A1010002 A1010004 A1010008 A1010010 A2000103E8 A2010203E8 A2020303E8 A2030403E8 A3004E204E20 A304000061A8" (1 ∷ 0 ∷ []) 1
-      (planAt 24001 1 (20000 ∷ 21000 ∷ 22000 ∷ 23000 ∷ 24000 ∷ []) ∷ planAt 24001 1 (20000 ∷ 21000 ∷ 22000 ∷ 23000 ∷ 24000 ∷ []) ∷ [])
+    (planAt 24001 1 (20000 ∷ 21000 ∷ 22000 ∷ 23000 ∷ 24000 ∷ []) ∷ planAt 24001 1 (20000 ∷ 21000 ∷ 22000 ∷ 23000 ∷ 24000 ∷ []) ∷ [])
     -- 20: earliest 20,001, above latest, job n, a job twice, jobs falling
     ∷ refusedWith 20 (fileOf "A0020100 A1010001 A3004E21FFFF")
     ∷ refusedWith 20 (fileOf "A0020100 A1010001 A30000010000")
