@@ -14,7 +14,7 @@ use Rattle.model.specs.declared.Window.{Window}
 use Rattle.model.specs.declared.Batch.{Batch}
 use Rattle.model.specs.declared.Delay.{Delay}
 use Rattle.model.specs.Common.{between, count, all, isSome}
-use Rattle.model.specs.Batch.{delayOf, delaysOf, earliest, latest}
+use Rattle.model.specs.Batch.{delayOf, delaysOf, windowOf, earliest, latest}
 use Rattle.model.specs.Plan.{start, finish, latency}
 use Rattle.model.specs.Clash.{Clash, clashes}
 use Rattle.model.specs.Search.{met, firstMet}
@@ -108,9 +108,9 @@ unfolding keepsEnds endTest
 ends-all b us n e = rw e (all-start (endTest b us) (b .n))
 
 -- its ends are read out of the array
-pub end-told : (b : Batch) (us : List ℕ) (i : ℕ) (x : Bool) → i < length (b .windows) → x ≡ between (windowAt b i .earliest) (getD us i 0) (windowAt b i .latest) → x ≡ endTest b us i
-unfolding endTest earliest latest start
-end-told b us i x h e = e ∙ ap (λ (w : Window). between (w .earliest) (getD us i 0) (w .latest)) (window-told b i h)
+pub end-told : (b : Batch) (us : List ℕ) (i : ℕ) (x : Bool) → i < length (b .windows) → x ≡ between (windowAt (b .windows) i .earliest) (getD us i 0) (windowAt (b .windows) i .latest) → x ≡ endTest b us i
+unfolding endTest earliest latest windowOf start
+end-told b us i x h e = e ∙ ap (λ (w : Window). between (w .earliest) (getD us i 0) (w .latest)) (window-told (b .windows) i h)
 
 -- ---- clashes
 

@@ -25,12 +25,12 @@ use Rattle.model.proofs.StartsLaws.{Inside, rounds-length}
 use Rattle.model.proofs.GoodLaws.{good-named}
 use Rattle.model.proofs.SoundLaws.{fits}
 use Rattle.model.proofs.UnderLaws.{Below, under-rounds, stopped-back, beyond-none}
-use Rattle.starts.specs.Rounds.{Reached, roundsOf}
+use Rattle.starts.specs.Rounds.{Reached, roundsOf, timely}
 use Rattle.weights.specs.Delays.{delaysRead}
 use Rattle.times.specs.Stays.{staysRead}
 use Rattle.times.specs.Latency.{latencyOf}
 use Rattle.times.specs.Ends.{earliestRead, latestRead}
-use Rattle.starts.specs.Least.{timely, leastOf}
+use Rattle.starts.specs.Least.{leastOf}
 use Rattle.starts.proofs.PlaceLaws.{Tabled}
 use Rattle.times.proofs.LatencyLaws.{latency-padded}
 use Rattle.weights.proofs.SoundLaws.{delays-length}

@@ -51,8 +51,8 @@ module _ (rows : List (List ℕ)) (tags ends tail head gap stays : List ℕ) (la
 
     -- a row, raised by the last turn; the jobs, the larger sum and the latency are results of calls
     pub begun-raised : (depth : ℕ) → (depth ≡ 0 → ⊥) → last ≡ depth - 1 → tag ≡ last → (i j x most wide latency : ℕ) → i ≡ getD tail last 0 → j ≡ getD head last 0
-        → most ≡ max (getD (getD rows (last % 32) []) j 0 + 1000) x → x ≡ getD (getD rows (last % 32) []) i 0 + 2000 - getD gap last 0 → wide ≡ getD stays j 0
-        → latency ≡ max (getD ends (last % 32) 0) (most - 1000 + wide) → Begun depth (set (getD rows (last % 32) []) j (most - 1000)) latency
+        → most ≡ max (getD (getD rows (last % 32) []) j 0) x → x ≡ getD (getD rows (last % 32) []) i 0 + 1000 - getD gap last 0 → wide ≡ getD stays j 0
+        → latency ≡ max (getD ends (last % 32) 0) (most + wide) → Begun depth (set (getD rows (last % 32) []) j most) latency
     unfolding begun raisedRow raisedStart if_then_else_
     begun-raised zero more e h i j x most wide latency a b c s g l = absurd (more refl)
     begun-raised (suc d) more e h i j x most wide latency a b c s g l =
@@ -103,7 +103,7 @@ module _ (b : Batch) (few : b .n ≤ 24) where
     unfolding raisedStart
     under-more ss long u =
         under-raised (earliestStarts b) (latestStarts b) more ss q listed (under-path (clashes b) b ts (t ∷ []) ss u) (raised ss) (λ j e. getD-set-other ss (q .to) j _ 0 e)
-        (omega (arith, getD-set-same ss (q .to) (max (getD ss (q .to) 0 + 1000) (getD ss (q .from) 0 + 2000 - coded (q .weight)) - 1000) 0 (omega (arith, f .to)), plus-coded (getD ss (q .from) 0) (q .weight) (f .weight), coded-most (q .weight) (f .weight)))
+        (omega (arith, getD-set-same ss (q .to) (max (getD ss (q .to) 0) (getD ss (q .from) 0 + 1000 - coded (q .weight))) 0 (omega (arith, f .to)), plus-coded (getD ss (q .from) 0) (q .weight) (f .weight), coded-most (q .weight) (f .weight)))
 
     base-raised : (row : List ℕ) → Base b (inequalities (clashes b) b ts) row → Base b more (raised row)
     base-raised row base =
@@ -135,7 +135,7 @@ module _ (b : Batch) (few : b .n ≤ 24) where
         rw (p, q, r)
         (record {
           base = rw (turns-more turns last) (base-raised (turnsIn turns last) (turnOf (getD turns last 0)) f row base);
-          latency = omega (arith, g, latency-set stays row (lastOf last .to) (max (getD row (lastOf last .to) 0 + 1000) (getD row (lastOf last .from) 0 + 2000 - coded (lastOf last .weight)) - 1000) (omega (arith, long, f .to)) (omega arith) 24 (omega (arith, f .to)));
+          latency = omega (arith, g, latency-set stays row (lastOf last .to) (max (getD row (lastOf last .to) 0) (getD row (lastOf last .from) 0 + 1000 - coded (lastOf last .weight))) (omega (arith, long, f .to)) (omega arith) 24 (omega (arith, f .to)));
         })
       where
         row : List ℕ

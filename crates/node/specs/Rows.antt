@@ -21,7 +21,7 @@ pub record SmallRing (rows : List (List ℕ)) (ends : List ℕ) : Type 0 where
 
 -- start j, raised by an inequality from i to j whose weight has this code
 unfoldable pub raisedStart : List ℕ → ℕ → ℕ → ℕ → ℕ
-raisedStart old i j code = max (getD old j 0 + 1000) (getD old i 0 + 2000 - code) - 1000
+raisedStart old i j code = max (getD old j 0) (getD old i 0 + 1000 - code)
 
 -- starts and their latency, raised by it
 unfoldable pub raisedRow : List ℕ → ℕ → ℕ → ℕ → ℕ → List ℕ → List ℕ × ℕ

@@ -41,7 +41,7 @@ pub fn begin(
     let i = wide(tail[last]);
     let j = wide(head[last]);
     let old = rows[place];
-    let start = larger(old[j] + 1000, less(old[i] + 2000, gap[last])) - 1000;
+    let start = larger(old[j], less(old[i] + 1000, gap[last]));
     let mut new = old;
     new[j] = start;
     *starts = new;

@@ -16,21 +16,23 @@ use Rattle.model.specs.Format.{furtherOf, hasNone}
 use Rattle.model.specs.Sound.{soundEdition, soundFurther}
 use Rattle.model.proofs.BoolLaws.{both, and-false, passes, fails}
 use Rattle.model.proofs.AllLaws.{allFrom, all-start}
-use Rattle.times.proofs.EndsLaws.{windowAt, window-told}
+use Rattle.times.proofs.EndsLaws.{windowAt, windowIn, window-told}
 use Rattle.soundness.specs.Limits.{ticksPass, countsPass, limitsPass}
 use Rattle.soundness.specs.Further.{endsPass, windowsPass, unlined}
 use Rattle.soundness.proofs.LimitLaws.{few-jobs}
 
 -- ---- ends
 
--- one job's ends, read out of the array
-pub ends-told : (b : Batch) (i : ℕ) (x : Bool) → i < length (b .windows) → x ≡ endsPass (windowAt b i) → x ≡ windowOk b i
-unfolding endsPass windowOk lined earliest latest
-ends-told b i x h e = e ∙ ap endsPass (window-told b i h)
+-- one job's ends, among the batch's windows
+abbrev pub endTest : List Window → ℕ → Bool
+endTest ws i = endsPass (windowIn ws i)
 
-pub ends-start : (b : Batch) (n : ℕ) → n ≡ b .n → allFrom (windowOk b) 0 n ≡ windowsPass b
-unfolding windowsPass
-ends-start b n e = rw e (all-start (windowOk b) (b .n))
+pub ends-told : (ws : List Window) (i : ℕ) (x : Bool) → i < length ws → x ≡ endsPass (windowAt ws i) → x ≡ endTest ws i
+ends-told ws i x h e = e ∙ ap endsPass (window-told ws i h)
+
+pub ends-start : (b : Batch) (n : ℕ) → n ≡ b .n → allFrom (endTest (b .windows)) 0 n ≡ windowsPass b
+unfolding windowsPass endsPass windowOk lined earliest latest windowOf
+ends-start b n e = rw e (all-start (endTest (b .windows)) (b .n))
 
 pub further-is : (b : Batch) (x : Bool) → x ≡ windowsPass b → x ≡ soundFurther b
 unfolding windowsPass soundFurther
@@ -91,28 +93,23 @@ module _ (w : Window) where
 
 -- ---- no lines
 
--- job i has none
-unfoldable pub lineless : Batch → ℕ → Bool
-lineless b i = not (lined b i)
+-- a job has none, by its flag
+abbrev pub lineTest : List Window → ℕ → Bool
+lineTest ws i = eqb (windowIn ws i .lined) 0
 
-none-kept : (b : Batch) (xs : List ℕ) → all (lineless b) xs ≡ isEmpty (map (windowLine b) (keep (lined b) xs))
-unfolding all keep if_then_else_ isEmpty lineless
+pub line-told : (ws : List Window) (i : ℕ) (x : Bool) → i < length ws → eqb (windowAt ws i .lined) 0 ≡ x → lineTest ws i ≡ x
+line-told ws i x h e = ap (λ (w : Window). eqb (w .lined) 0) (sym (window-told ws i h)) ∙ e
+
+none-kept : (b : Batch) (xs : List ℕ) → all (lineTest (b .windows)) xs ≡ isEmpty (map (windowLine b) (keep (lined b) xs))
+unfolding all keep if_then_else_ isEmpty lined windowOf
 none-kept b [] = refl
-none-kept b (x ∷ xs) = go (lined b x) (none-kept b xs)
+none-kept b (x ∷ xs) = go (lineTest (b .windows) x) (none-kept b xs)
   where
-    go : (t : Bool) → all (lineless b) xs ≡ isEmpty (map (windowLine b) (keep (lined b) xs)) → _≡_ {A = Bool} (elim (not t) [ true ↦ all (lineless b) xs | false ↦ false ]) (isEmpty (map (windowLine b) (if t then x ∷ keep (lined b) xs else keep (lined b) xs)))
-    go true rec = refl
-    go false rec = rec
+    go : (t : Bool) → all (lineTest (b .windows)) xs ≡ isEmpty (map (windowLine b) (keep (lined b) xs))
+        → _≡_ {A = Bool} (elim t [ true ↦ all (lineTest (b .windows)) xs | false ↦ false ]) (isEmpty (map (windowLine b) (if not t then x ∷ keep (lined b) xs else keep (lined b) xs)))
+    go true rec = rec
+    go false rec = refl
 
-pub none-start : (b : Batch) (n : ℕ) → n ≡ b .n → allFrom (lineless b) 0 n ≡ unlined b
+pub none-start : (b : Batch) (n : ℕ) → n ≡ b .n → allFrom (lineTest (b .windows)) 0 n ≡ unlined b
 unfolding unlined windowLines
-none-start b n e = rw e (all-start (lineless b) (b .n) ∙ none-kept b (count 0 (b .n)))
-
--- a flag that is read out of the array
-pub line-told : (b : Batch) (i : ℕ) → i < length (b .windows) → eqb (windowAt b i .lined) 0 ≡ lineless b i
-unfolding lineless lined
-line-told b i h = ap (λ (w : Window). eqb (w .lined) 0) (window-told b i h) ∙ flip (eqb (windowOf b i .lined) 0)
-  where
-    flip : (t : Bool) → t ≡ not (not t)
-    flip true = refl
-    flip false = refl
+none-start b n e = rw e (all-start (lineTest (b .windows)) (b .n) ∙ none-kept b (count 0 (b .n)))

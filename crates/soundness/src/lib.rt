@@ -78,7 +78,9 @@ pub fn examine(search: Search) -> Examined
     if 1024 < count {
         return unsound();
     }
-    if !read_delays_met(batch, delays) {
+    let earliest = earliest_of(batch);
+    let latest = latest_of(batch);
+    if !read_delays_met(batch, delays, &earliest, &latest) {
         return unsound();
     }
     let path = search.path;
@@ -89,8 +91,8 @@ pub fn examine(search: Search) -> Examined
         clashes: clashes,
         delays: delays,
         stays: stays_of(batch),
-        earliest: earliest_of(batch),
-        latest: latest_of(batch),
+        earliest,
+        latest,
         turns: turns,
         depth: route.depth,
     }

@@ -23,9 +23,10 @@ pub fn windows_pass(batch: Batch) -> bool
     ensures { λ r. ⌜ r ≡ windowsPass batch ⌝ }
 {
     let n = wide(batch.n);
+    let windows = batch.windows;
     let mut i: usize = 0;
     while i < n {
-        let window = batch.windows[i];
+        let window = windows[i];
         if !ends_pass(window) {
             return false;
         }
@@ -40,9 +41,10 @@ pub fn no_windows(batch: Batch) -> bool
     ensures { λ r. ⌜ r ≡ unlined batch ⌝ }
 {
     let n = wide(batch.n);
+    let windows = batch.windows;
     let mut i: usize = 0;
     while i < n {
-        let window = batch.windows[i];
+        let window = windows[i];
         if window.lined != 0 {
             return false;
         }

@@ -53,7 +53,7 @@ module _ (n : ℕ) (few : n ≤ 24) (t : List (List ℕ)) (qs : List Delay) (h :
     where
       start : (j : ℕ) → j < 24 → startOf t (pad 24 0 old) j (4 * fours) ≡ raised qs old j
       start j b =
-          start-raised n (pad 24 0 old) (λ i. omega (arith, small .each i)) j qs (h .fits) t (4 * fours) low
+          start-raised n (pad 24 0 old) (λ i. omega (arith, small .each i)) j qs (h .fits) t (4 * fours) low high
           (λ i c. h .place i j (omega arith) b)
           ∙ raised-cong qs (pad 24 0 old) old (pad-at 24 0 old) j
 

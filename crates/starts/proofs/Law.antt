@@ -14,7 +14,6 @@ use Rattle.model.specs.declared.Delay.{Delay}
 use Rattle.model.specs.declared.Batch.{Batch}
 use Rattle.model.specs.declared.Turn.{Turn}
 use Rattle.model.specs.Common.{count, pad}
-use lib.Dec.{eqb}
 use Rattle.model.specs.Batch.{delaysOf, earliestStarts, latestStarts}
 use Rattle.model.specs.Plan.{latency}
 use Rattle.model.specs.Clash.{Clash}
@@ -26,12 +25,11 @@ use Rattle.model.proofs.StartsLaws.{Inside, rounds-length, ends-length, inside-
 use Rattle.model.proofs.UnderLaws.{Below, under-rounds, round-more, settled-least, late-none, changed-none}
 use Rattle.weights.specs.Code.{placeCode}
 use Rattle.starts.specs.Table.{withPut, withStored, emptyTable, heaviestOf}
-use Rattle.starts.specs.Rounds.{Reached, roundsOf}
+use Rattle.starts.specs.Rounds.{Reached, roundsOf, timely}
 use Rattle.times.specs.Stays.{staysRead}
 use Rattle.times.specs.Latency.{latencyOf}
-use Rattle.starts.specs.Least.{timely}
 use Rattle.weights.specs.Holds.{Holds}
-use Rattle.times.specs.Ends.{latestRead, lateBy}
+use Rattle.times.specs.Ends.{latestRead, noneLate}
 use Rattle.times.proofs.EndsLaws.{time-is}
 use Rattle.starts.proofs.PlaceLaws.{code-is, Tabled}
 use Rattle.starts.proofs.HeldLaws.{held-tabled, heavy-tabled}
@@ -135,8 +133,8 @@ module _ (b : Batch) (few : b .n ≤ 24) (t : List (List ℕ)) (qs : List Delay)
     ss-long : length ss ≡ n
     ss-long = rounds-length qs base _ ∙ len
 
-    pub time-told : eqb (lateBy (latestRead b) (left n .starts) 24) 0 ≡ inTime last ss
-    time-told = ap (λ (l : List ℕ). eqb (lateBy (latestRead b) l 24) 0) (came n .starts) ∙ time-is b few ss ss-long
+    pub time-told : noneLate (latestRead b) (left n .starts) 24 ≡ inTime last ss
+    time-told = ap (λ (l : List ℕ). noneLate (latestRead b) l 24) (came n .starts) ∙ time-is b few ss ss-long
 
     -- a round without change, and starts in time: the least starts
     settled-some : left n .found ≡ true → inTime last ss ≡ true → leastStarts first last qs ≡ some ss
@@ -161,7 +159,7 @@ module _ (b : Batch) (few : b .n ≤ 24) (t : List (List ℕ)) (qs : List Delay)
       where
         go : Ending qs base bound n (came n .j) (left n) → (leastStarts first last qs ≡ none) ⊎ (bound ≤ left n .latency)
         go (settled e _ _) =
-            inl (late-none first last qs inside ss (long ss ss-long) (under-rounds first last qs base u _) (sym time-told ∙ ap (λ (p : Bool). p && eqb (lateBy (latestRead b) (left n .starts) 24) 0) (sym e) ∙ f))
+            inl (late-none first last qs inside ss (long ss ss-long) (under-rounds first last qs base u _) (sym time-told ∙ ap (λ (p : Bool). p && noneLate (latestRead b) (left n .starts) 24) (sym e) ∙ f))
         go (stopped _ p _) = inr p
         go (used _ e c) = inl (changed-least _ e c)
 

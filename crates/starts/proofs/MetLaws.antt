@@ -1,13 +1,12 @@
--- Whether the delays and ends can be met, as the code finds it: it reads them, takes rounds over the delays' table from the earliest starts, and says whether
--- one of them changed nothing and no start passes its latest. The bound is never reached before round n: a round raises a start by at most 1,000.
+-- Whether the delays and ends can be met, as the code finds it: it takes rounds over the delays' table from the earliest starts, which say whether one of
+-- them changed nothing and no start passes its latest. The bound is never reached before round n: a round raises a start by at most 1,000.
 use mathlib.Core.Path.{_≡_, refl, sym, ap, _∙_}
 use mathlib.Core.Logic.{_⊎_, inl, inr}
-use mathlib.Core.Bool.{Bool, true, false, _&&_}
+use mathlib.Core.Bool.{Bool, true, false}
 use mathlib.Core.Option.{Option, none}
 use mathlib.Core.List.{List}
 use Prim.Native.Nat.{ℕ, _+_, _*_, _/_, _≤_, _<_}
 use native.Mathlib.Omega.{arith}
-use lib.Dec.{eqb}
 use lib.ListN.{length, getD, replicate}
 use Rattle.model.specs.declared.Batch.{Batch}
 use Rattle.model.specs.Common.{isSome, pad}
@@ -19,7 +18,7 @@ use Rattle.model.proofs.StartsLaws.{after, ends-length}
 use Rattle.model.proofs.BoundLaws.{after-bound}
 use Rattle.model.proofs.UnderLaws.{under-first}
 use Rattle.times.specs.Fill.{Small}
-use Rattle.times.specs.Ends.{earliestRead, latestRead, lateBy}
+use Rattle.times.specs.Ends.{earliestRead, latestRead}
 use Rattle.times.specs.Latency.{latencyOf, raisedBy}
 use Rattle.times.proofs.FillLaws.{filled-length}
 use Rattle.times.proofs.EndsLaws.{earliest-is}
@@ -28,9 +27,8 @@ use Rattle.weights.specs.declared.delays.Delays.{Delays}
 use Rattle.weights.specs.Delays.{delaysRead, DelaysSound}
 use Rattle.weights.specs.Holds.{Holds}
 use Rattle.weights.proofs.SoundLaws.{delays-length, holds-read}
-use Rattle.starts.specs.Rounds.{Reached, roundsOf}
+use Rattle.starts.specs.Rounds.{Reached, roundsOf, timely}
 use Rattle.starts.specs.Table.{withPut, emptyTable, Placed}
-use Rattle.starts.specs.Least.{timely}
 use Rattle.starts.proofs.PlaceLaws.{Tabled, empty-tabled}
 use Rattle.starts.proofs.RaisedLaws.{fits-slow}
 use Rattle.starts.proofs.HeldLaws.{held-placed, held-tabled}
@@ -129,25 +127,15 @@ module _ (b : Batch) (s : DelaysSound b) (d : Delays) (e : d ≡ delaysRead b) (
           go true f = sym (ap isSome (found-least b (s .most) t (delaysOf b) tabled first noStays (ends-length b) 43017 (omega arith) latency l low (s .some) (under-first first (latestStarts b) (delaysOf b)) f))
           go false f = sym (ap isSome (lost f))
 
-    -- what the code finds: its rounds from the array of earliest starts, and the test of the latest
-    module _ (n : ℕ) (g : n ≡ b .n) (starts latest ss : List ℕ) (first-is : starts ≡ earliestRead b) (last-is : latest ≡ latestRead b) (latency risen : ℕ) (h : latency ≡ raisedBy noStays starts 0) (changed : Bool)
-        (r : record { starts = ss; latency = risen; found = changed } ≡ roundsOf t noStays ((n + 3) / 4) 43017 starts latency n) where
-      begins : starts ≡ pad 24 0 first
-      begins = first-is ∙ earliest-is b (s .most)
-
-      first-latency : latency ≡ latencyOf noStays starts 24
-      unfolding raisedBy
-      first-latency = omega (arith, h)
-
-      whole : changed && eqb (lateBy latest ss 24) 0 ≡ delaysMet b
-      unfolding timely
-      whole =
-          ap (λ (l : List ℕ). changed && eqb (lateBy l ss 24) 0) last-is
-          ∙ ap (λ (x : Reached). timely (latestRead b) x .found) (r ∙ ap (λ (k : ℕ). roundsOf t noStays ((k + 3) / 4) 43017 starts latency k) g ∙ ap (λ (l : List ℕ). roundsOf t noStays ((b .n + 3) / 4) 43017 l latency (b .n)) begins)
-          ∙ met-told latency (first-latency ∙ ap (λ (l : List ℕ). latencyOf noStays l 24) begins)
-
-      pub met-settled : changed ≡ true → (x : Bool) → x ≡ eqb (lateBy latest ss 24) 0 → x ≡ delaysMet b
-      met-settled f x k = k ∙ ap (λ (y : Bool). y && eqb (lateBy latest ss 24) 0) (sym f) ∙ whole
-
-      pub met-changed : changed ≡ false → changed ≡ delaysMet b
-      met-changed f = f ∙ ap (λ (y : Bool). y && eqb (lateBy latest ss 24) 0) (sym f) ∙ whole
+    -- what the code finds by its rounds from the array of earliest starts
+    pub met-is : (n : ℕ) → n ≡ b .n → (starts latest : List ℕ) → starts ≡ earliestRead b → latest ≡ latestRead b → (latency : ℕ) → latency ≡ raisedBy noStays starts 0 → (r : Reached)
+        → r ≡ timely latest (roundsOf t noStays ((n + 3) / 4) 43017 starts latency n) → r .found ≡ delaysMet b
+    unfolding raisedBy
+    met-is n g starts latest first-is last-is latency h r k =
+        ap (λ (x : Reached). x .found)
+        (k ∙ ap (λ (i : ℕ). timely latest (roundsOf t noStays ((i + 3) / 4) 43017 starts latency i)) g ∙ ap (λ (l : List ℕ). timely latest (roundsOf t noStays ((b .n + 3) / 4) 43017 l latency (b .n))) begins
+        ∙ ap (λ (l : List ℕ). timely l (roundsOf t noStays ((b .n + 3) / 4) 43017 (pad 24 0 first) latency (b .n))) last-is)
+        ∙ met-told latency (omega (arith, h, ap (λ (l : List ℕ). latencyOf noStays l 24) begins))
+      where
+        begins : starts ≡ pad 24 0 first
+        begins = first-is ∙ earliest-is b (s .most)

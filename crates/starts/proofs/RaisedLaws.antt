@@ -16,33 +16,33 @@ use Rattle.model.specs.Starts.{plus, raised}
 use Rattle.model.proofs.StartsLaws.{raised-old}
 use Rattle.model.proofs.BoundLaws.{Slow}
 use Rattle.weights.specs.Code.{coded, Fits}
-use Rattle.starts.specs.Rounds.{sumAt, largest, startOf}
+use Rattle.starts.specs.Rounds.{sumAt, largest, liftedOf, startOf}
 use Rattle.weights.proofs.CodeLaws.{plus-coded}
-use Rattle.starts.proofs.RoundLaws.{largest-first}
+use Rattle.starts.proofs.RoundLaws.{lifted-at}
 use Rattle.starts.proofs.PlaceLaws.{codeAt, kept}
 
 -- ---- the largest of a column
 
-largest-at : (table : List (List ℕ)) (old : List ℕ) (j first k i : ℕ) → i < k → sumAt table old j i ≤ largest table old j first k
+largest-at : (table : List (List ℕ)) (high : List ℕ) (j k i : ℕ) → i < k → sumAt table high j i ≤ largest table high j k
 unfolding largest
-largest-at table old j first zero i h = absurd (omega arith)
-largest-at table old j first (suc k) i h = go (decLt i k) (largest-at table old j first k i)
+largest-at table high j zero i h = absurd (omega arith)
+largest-at table high j (suc k) i h = go (decLt i k) (largest-at table high j k i)
   where
-    go : Dec (i < k) → (i < k → sumAt table old j i ≤ largest table old j first k) → sumAt table old j i ≤ max (largest table old j first k) (sumAt table old j k)
+    go : Dec (i < k) → (i < k → sumAt table high j i ≤ largest table high j k) → sumAt table high j i ≤ max (largest table high j k) (sumAt table high j k)
     go (yes p) rec = omega (arith, rec p)
     go (no p) rec = let e : i ≡ k = omega arith in rw e (omega arith)
 
-largest-below : (table : List (List ℕ)) (old : List ℕ) (j first k x : ℕ) → first ≤ x → ((i : ℕ) → i < k → sumAt table old j i ≤ x) → largest table old j first k ≤ x
+largest-below : (table : List (List ℕ)) (high : List ℕ) (j k x : ℕ) → ((i : ℕ) → i < k → sumAt table high j i ≤ x) → largest table high j k ≤ x
 unfolding largest
-largest-below table old j first zero x h f = h
-largest-below table old j first (suc k) x h f =
-    omega (arith, f k (omega arith), largest-below table old j first k x h (λ i p. f i (omega arith)))
+largest-below table high j zero x f = omega arith
+largest-below table high j (suc k) x f =
+    omega (arith, f k (omega arith), largest-below table high j k x (λ i p. f i (omega arith)))
 
--- ---- the definition's raised start, over starts of at most 63,535
+-- ---- the definition's raised start, over starts of at most 64,535
 
-module _ (n : ℕ) (old : List ℕ) (low : (i : ℕ) → getD old i 0 ≤ 63535) (j : ℕ) where
+module _ (n : ℕ) (old : List ℕ) (low : (i : ℕ) → getD old i 0 ≤ 64535) (j : ℕ) where
   -- no place asks for more: the sum of an empty one is 0
-  place-below : (qs : List Delay) → ((q : Delay) → List·Memᴰ q qs → Fits n q) → (i : ℕ) → getD old i 0 + 2000 - codeAt qs i j ≤ raised qs old j + 1000
+  place-below : (qs : List Delay) → ((q : Delay) → List·Memᴰ q qs → Fits n q) → (i : ℕ) → getD old i 0 + 1000 - codeAt qs i j ≤ raised qs old j
   unfolding raised if_then_else_ kept codeAt
   place-below [] f i = omega (arith, low i)
   place-below (q ∷ qs) f i = go (eqb (q .from) i) refl (eqb (q .to) j) (place-below qs (λ p m. f p (List·Memᴰ·tail m)) i)
@@ -50,8 +50,8 @@ module _ (n : ℕ) (old : List ℕ) (low : (i : ℕ) → getD old i 0 ≤ 63535)
       sum : ℕ
       sum = plus (getD old (q .from) 0) (q .weight)
 
-      go : (a : Bool) → eqb (q .from) i ≡ a → (b : Bool) → getD old i 0 + 2000 - codeAt qs i j ≤ raised qs old j + 1000
-          → getD old i 0 + 2000 - kept (a && b) (coded (q .weight)) (codeAt qs i j) ≤ (if b then max sum (raised qs old j) else raised qs old j) + 1000
+      go : (a : Bool) → eqb (q .from) i ≡ a → (b : Bool) → getD old i 0 + 1000 - codeAt qs i j ≤ raised qs old j
+          → getD old i 0 + 1000 - kept (a && b) (coded (q .weight)) (codeAt qs i j) ≤ (if b then max sum (raised qs old j) else raised qs old j)
       go true e true h =
           let g : getD old (q .from) 0 ≡ getD old i 0 = ap (λ (x : ℕ). getD old x 0) (eqb-true (q .from) i e) in
           omega (arith, plus-coded (getD old (q .from) 0) (q .weight) (f q (List·Memᴰ·head refl) .weight))
@@ -60,7 +60,7 @@ module _ (n : ℕ) (old : List ℕ) (low : (i : ℕ) → getD old i 0 ≤ 63535)
       go false e false h = h
 
   -- and what the inequalities ask, some place asks
-  raised-below : (qs : List Delay) → ((q : Delay) → List·Memᴰ q qs → Fits n q) → (x : ℕ) → getD old j 0 + 1000 ≤ x → ((i : ℕ) → i < n → getD old i 0 + 2000 - codeAt qs i j ≤ x) → raised qs old j + 1000 ≤ x
+  raised-below : (qs : List Delay) → ((q : Delay) → List·Memᴰ q qs → Fits n q) → (x : ℕ) → getD old j 0 ≤ x → ((i : ℕ) → i < n → getD old i 0 + 1000 - codeAt qs i j ≤ x) → raised qs old j ≤ x
   unfolding raised if_then_else_ kept codeAt
   raised-below [] f x h g = h
   raised-below (q ∷ qs) f x h g =
@@ -73,30 +73,29 @@ module _ (n : ℕ) (old : List ℕ) (low : (i : ℕ) → getD old i 0 ≤ 63535)
       smaller true y z = omega arith
       smaller false y z = le-refl z
 
-      more : (i : ℕ) → getD old i 0 + 2000 - codeAt qs i j ≤ getD old i 0 + 2000 - codeAt (q ∷ qs) i j
+      more : (i : ℕ) → getD old i 0 + 1000 - codeAt qs i j ≤ getD old i 0 + 1000 - codeAt (q ∷ qs) i j
       more i = omega (arith, smaller (eqb (q .from) i && eqb (q .to) j) (coded (q .weight)) (codeAt qs i j))
 
       own : eqb (q .to) j ≡ true → codeAt (q ∷ qs) (q .from) j ≤ coded (q .weight)
       own e = rw (eq-eqb (q .from) (q .from) refl, e) (omega arith)
 
-      go : (b : Bool) → eqb (q .to) j ≡ b → raised qs old j + 1000 ≤ x → (if b then max sum (raised qs old j) else raised qs old j) + 1000 ≤ x
+      go : (b : Bool) → eqb (q .to) j ≡ b → raised qs old j ≤ x → (if b then max sum (raised qs old j) else raised qs old j) ≤ x
       go false e r = r
       go true e r =
           let fit : Fits n q = f q (List·Memᴰ·head refl) in
           omega (arith, own e, g (q .from) (fit .from), plus-coded (getD old (q .from) 0) (q .weight) (fit .weight))
 
   -- start j by the column of what ends in it, over at least n rows
-  pub start-raised : (qs : List Delay) → ((q : Delay) → List·Memᴰ q qs → Fits n q) → (table : List (List ℕ)) (k : ℕ) → n ≤ k → ((i : ℕ) → i < k → getD (getD table i []) j 0 ≡ codeAt qs i j)
+  pub start-raised : (qs : List Delay) → ((q : Delay) → List·Memᴰ q qs → Fits n q) → (table : List (List ℕ)) (k : ℕ) → n ≤ k → k ≤ 24 → ((i : ℕ) → i < k → getD (getD table i []) j 0 ≡ codeAt qs i j)
       → startOf table old j k ≡ raised qs old j
   unfolding startOf sumAt
-  start-raised qs f table k b e =
-      let up : largest table old j (getD old j 0 + 1000) k ≤ raised qs old j + 1000 =
-      largest-below table old j (getD old j 0 + 1000) k (raised qs old j + 1000) (omega (arith, raised-old qs old j))
-      (λ i p. omega (arith, place-below qs f i, e i p)) in
-      let down : raised qs old j + 1000 ≤ largest table old j (getD old j 0 + 1000) k =
-      raised-below qs f (largest table old j (getD old j 0 + 1000) k) (largest-first table old j (getD old j 0 + 1000) k)
-      (λ i p. omega (arith, largest-at table old j (getD old j 0 + 1000) k i (omega arith), e i (omega arith))) in
-      omega arith
+  start-raised qs f table k b w e =
+      let up : largest table (liftedOf old) j k ≤ raised qs old j =
+      largest-below table (liftedOf old) j k (raised qs old j) (λ i p. omega (arith, place-below qs f i, e i p, lifted-at old i (omega arith))) in
+      let down : raised qs old j ≤ max (getD old j 0) (largest table (liftedOf old) j k) =
+      raised-below qs f (max (getD old j 0) (largest table (liftedOf old) j k)) (omega arith)
+      (λ i p. omega (arith, largest-at table (liftedOf old) j k i (omega arith), e i (omega arith), lifted-at old i (omega arith))) in
+      omega (arith, raised-old qs old j)
 
 -- no inequality ends past n
 pub raised-past : (n : ℕ) (qs : List Delay) → ((q : Delay) → List·Memᴰ q qs → Fits n q) → (old : List ℕ) (j : ℕ) → n ≤ j → raised qs old j ≡ getD old j 0

@@ -9,33 +9,37 @@ use native.Mathlib.Numerals.{add-one, sub-one}
 use native.Mathlib.Omega.{arith}
 use native.Mathlib.Decide.{ℕ-discrete, decLt}
 use lib.Dec.{eqb}
-use lib.ListN.{getD, length, List·getD-eq-default}
+use lib.ListN.{getD, length, replicate, List·getD-eq-default}
 use borrow.Author.Tests.{eqb-true, eq-eqb, le-leb, lt-leb}
 use Rattle.model.specs.Common.{if_then_else_}
 use Rattle.model.proofs.BoolLaws.{both, and-false}
 use Rattle.times.specs.Fill.{Small}
-use Rattle.starts.specs.Rounds.{Lifted, sumAt, largest, startOf, roundOf, raisedTo, liftedOf, loweredOf, fourRaised, sameTo, Reached, roundsOf}
+use Rattle.times.specs.Ends.{noneLate}
+use Rattle.starts.specs.Rounds.{sumAt, largest, startOf, roundOf, raisedTo, liftedOf, highestOf, fourRaised, sameTo, Reached, roundsOf, timely}
 use Rattle.times.specs.Latency.{latencyOf, raisedBy}
 use Rattle.times.proofs.LatencyLaws.{latency-mono, latency-at}
-use Rattle.times.proofs.FillLaws.{filled-length, filled-at, filled-cong, filled-small}
+use Rattle.times.proofs.FillLaws.{filled-none, filled-length, filled-at, filled-cong, filled-rest, filled-small}
 
 -- ---- one start
 
-pub largest-first : (table : List (List ℕ)) (old : List ℕ) (j first k : ℕ) → first ≤ largest table old j first k
-unfolding largest
-largest-first table old j first zero = omega arith
-largest-first table old j first (suc k) = omega (arith, largest-first table old j first k)
+pub lifted-at : (old : List ℕ) (i : ℕ) → i < 24 → getD (liftedOf old) i 0 ≡ getD old i 0 + 1000
+unfolding liftedOf
+lifted-at old i h = filled-at (λ j. getD old j 0 + 1000) 24 24 i (omega arith) h
 
-largest-small : (table : List (List ℕ)) (old : List ℕ) (j first b k : ℕ) → Small old b → first ≤ b + 2000 → largest table old j first k ≤ b + 2000
+lifted-small : (old : List ℕ) (b : ℕ) → Small old b → Small (liftedOf old) (b + 1000)
+unfolding liftedOf
+lifted-small old b q = filled-small (λ j. getD old j 0 + 1000) 24 (b + 1000) (λ j. omega (arith, q .each j)) 24
+
+largest-small : (table : List (List ℕ)) (high : List ℕ) (j b k : ℕ) → Small high b → largest table high j k ≤ b
 unfolding largest sumAt
-largest-small table old j first b zero q h = h
-largest-small table old j first b (suc k) q h = omega (arith, largest-small table old j first b k q h, q .each k)
+largest-small table high j b zero q = omega arith
+largest-small table high j b (suc k) q = omega (arith, largest-small table high j b k q, q .each k)
 
 -- a round raises a start by at most 1,000, whatever the table holds
 start-small : (table : List (List ℕ)) (old : List ℕ) (j k b : ℕ) → Small old b → startOf table old j k ≤ b + 1000
 unfolding startOf
 start-small table old j k b q =
-    omega (arith, largest-small table old j (getD old j 0 + 1000) b k q (omega (arith, q .each j)))
+    omega (arith, largest-small table (liftedOf old) j (b + 1000) k (lifted-small old b q), q .each j)
 
 -- ---- one round
 
@@ -50,16 +54,16 @@ pub four-place : (x v y first second a b c d : ℕ) {a′ b′ c′ d′ : ℕ} 
     → v ≡ max x (max (max a′ b′) (max c′ d′))
 four-place x v y first second a b c d p q e r s g h k = rw (k, h, e, g, p, q, r, s)
 
-module _ (table : List (List ℕ)) (old : List ℕ) where
-  pub raised-none : (new : List ℕ) → new ≡ liftedOf old → new ≡ raisedTo table old 0
-  unfolding liftedOf raisedTo largest
-  raised-none new e = e
+module _ (table : List (List ℕ)) (high : List ℕ) where
+  pub raised-none : replicate 24 0 ≡ raisedTo table high 0
+  unfolding raisedTo largest
+  raised-none = filled-none (λ j. 0) 24 ∙ sym (filled-rest (λ j. 0) 24 0 (omega arith) (λ i h. refl))
 
   -- four rows more
-  pub raised-more : (q i : ℕ) (new more : List ℕ) → new ≡ raisedTo table old (4 * q) → i ≡ 4 * q → more ≡ fourRaised table old i new → more ≡ raisedTo table old (4 * (q + 1))
+  pub raised-more : (q i : ℕ) (new more : List ℕ) → new ≡ raisedTo table high (4 * q) → i ≡ 4 * q → more ≡ fourRaised table high i new → more ≡ raisedTo table high (4 * (q + 1))
   unfolding raisedTo fourRaised largest
   raised-more q i new more e p g =
-      g ∙ filled-cong _ (λ j. largest table old j (getD old j 0 + 1000) (4 * (q + 1))) 24 24 (λ j h. place j (ap (λ (l : List ℕ). getD l j 0) e ∙ filled-at (λ j. largest table old j (getD old j 0 + 1000) (4 * q)) 24 24 j (omega arith) h))
+      g ∙ filled-cong _ (λ j. largest table high j (4 * (q + 1))) 24 24 (λ j h. place j (ap (λ (l : List ℕ). getD l j 0) e ∙ filled-at (λ j. largest table high j (4 * q)) 24 24 j (omega arith) h))
     where
       last : 4 * (q + 1) ≡ suc (suc (suc (suc i)))
       last = omega arith
@@ -73,25 +77,17 @@ module _ (table : List (List ℕ)) (old : List ℕ) where
       three : i + 3 ≡ suc (suc (suc i))
       three = omega arith
 
-      place : (j : ℕ) → getD new j 0 ≡ largest table old j (getD old j 0 + 1000) (4 * q)
-          → max (getD new j 0) (max (max (sumAt table old j i) (sumAt table old j (i + 1))) (max (sumAt table old j (i + 2)) (sumAt table old j (i + 3))))
-          ≡ largest table old j (getD old j 0 + 1000) (4 * (q + 1))
-      place j h = rw (last, one, two, three, h ∙ ap (largest table old j (getD old j 0 + 1000)) (sym p)) (max-four _ _ _ _ _)
+      place : (j : ℕ) → getD new j 0 ≡ largest table high j (4 * q)
+          → max (getD new j 0) (max (max (sumAt table high j i) (sumAt table high j (i + 1))) (max (sumAt table high j (i + 2)) (sumAt table high j (i + 3))))
+          ≡ largest table high j (4 * (q + 1))
+      place j h = rw (last, one, two, three, h ∙ ap (largest table high j) (sym p)) (max-four _ _ _ _ _)
 
-  pub raised-lifted : (k : ℕ) (new : List ℕ) → new ≡ raisedTo table old k → Lifted new
-  unfolding raisedTo
-  raised-lifted k new e =
-      record {
-        each = λ j h.
-            omega
-            (arith, ap (λ (l : List ℕ). getD l j 0) e ∙ filled-at (λ j. largest table old j (getD old j 0 + 1000) k) 24 24 j (omega arith) h, largest-first table old j (getD old j 0 + 1000) k);
-      }
-
-  pub round-is : (k : ℕ) (new starts : List ℕ) → new ≡ raisedTo table old k → starts ≡ loweredOf new → starts ≡ roundOf table old k
-  unfolding raisedTo loweredOf roundOf startOf
-  round-is k new starts e g =
+module _ (table : List (List ℕ)) (old : List ℕ) where
+  pub round-is : (k : ℕ) (high new starts : List ℕ) → high ≡ liftedOf old → new ≡ raisedTo table high k → starts ≡ highestOf old new → starts ≡ roundOf table old k
+  unfolding raisedTo highestOf roundOf startOf
+  round-is k high new starts l e g =
       g ∙ filled-cong _ (λ j. startOf table old j k) 24 24
-      (λ j h. ap (λ (x : ℕ). x - 1000) (ap (λ (l : List ℕ). getD l j 0) e ∙ filled-at (λ j. largest table old j (getD old j 0 + 1000) k) 24 24 j (omega arith) h))
+      (λ j h. ap (max (getD old j 0)) (ap (λ (l : List ℕ). getD l j 0) e ∙ filled-at (λ j. largest table high j k) 24 24 j (omega arith) h ∙ ap (λ (l : List ℕ). largest table l j k) l))
 
   pub round-small : (k b : ℕ) → Small old b → Small (roundOf table old k) (b + 1000)
   unfolding roundOf
@@ -138,7 +134,7 @@ pub latency-rises : (table : List (List ℕ)) (stays old : List ℕ) (k : ℕ) �
 unfolding roundOf startOf
 latency-rises table stays old k =
     latency-mono stays old _ 24
-    (λ j h. omega (arith, filled-at (λ j. largest table old j (getD old j 0 + 1000) k - 1000) 24 24 j (omega arith) h, largest-first table old j (getD old j 0 + 1000) k))
+    (λ j h. omega (arith, filled-at (λ j. max (getD old j 0) (largest table (liftedOf old) j k)) 24 24 j (omega arith) h))
 
 -- starts whose latency is below a bound are small
 pub below-small : (stays starts : List ℕ) (latency bound : ℕ) → length starts ≡ 24 → latency ≡ latencyOf stays starts 24 → latency < bound → bound ≤ 43017 → Small starts 43016
@@ -162,25 +158,26 @@ module _ (table : List (List ℕ)) (fours : ℕ) where
     unfolding raisedBy
     next-latency stays latency risen l h = h ∙ rw (l, e) (omega (arith, latency-rises table stays old (4 * fours)))
 
-  -- the cases of the code; the new starts, the test and the risen latency are results of calls
-  module _ (stays old : List ℕ) (bound latency : ℕ) where
-    pub rounds-none : (k : ℕ) → k ≡ 0 → record { starts = old; latency = latency; found = false } ≡ roundsOf table stays fours bound old latency k
-    unfolding roundsOf
+  -- the cases of the code; the new starts, the tests and the risen latency are results of calls
+  module _ (stays latest old : List ℕ) (bound latency : ℕ) where
+    pub rounds-none : (k : ℕ) → k ≡ 0 → record { starts = old; latency = latency; found = false } ≡ timely latest (roundsOf table stays fours bound old latency k)
+    unfolding roundsOf timely
     rounds-none k h = rw h
 
     module _ (new : List ℕ) (r : Bool) (e : new ≡ roundOf table old (4 * fours)) (s : r ≡ sameTo old new 24) where
-      pub rounds-end : (k : ℕ) → (k ≡ 0 → ⊥) → r ≡ true → record { starts = old; latency = latency; found = true } ≡ roundsOf table stays fours bound old latency k
-      unfolding roundsOf if_then_else_
-      rounds-end zero more p = absurd (more refl)
-      rounds-end (suc k) more p = rw (← e, ← s, p)
+      pub rounds-end : (k : ℕ) → (k ≡ 0 → ⊥) → r ≡ true → (x : Bool) → x ≡ noneLate latest old 24 → record { starts = old; latency = latency; found = x } ≡ timely latest (roundsOf table stays fours bound old latency k)
+      unfolding roundsOf timely if_then_else_
+      rounds-end zero more p x t = absurd (more refl)
+      rounds-end (suc k) more p x t = rw (← e, ← s, p, t)
 
       module _ (risen : ℕ) (g : risen ≡ raisedBy stays new latency) (p : r ≡ false) where
-        pub rounds-stop : (k : ℕ) → (k ≡ 0 → ⊥) → bound ≤ risen → record { starts = new; latency = risen; found = false } ≡ roundsOf table stays fours bound old latency k
-        unfolding roundsOf if_then_else_
+        pub rounds-stop : (k : ℕ) → (k ≡ 0 → ⊥) → bound ≤ risen → record { starts = new; latency = risen; found = false } ≡ timely latest (roundsOf table stays fours bound old latency k)
+        unfolding roundsOf timely if_then_else_
         rounds-stop zero more h = absurd (more refl)
         rounds-stop (suc k) more h = rw (← e, ← s, p, ← g, le-leb bound risen h)
 
-        pub rounds-on : (k : ℕ) → (k ≡ 0 → ⊥) → risen < bound → (x : Reached) → x ≡ roundsOf table stays fours bound new risen (k - 1) → x ≡ roundsOf table stays fours bound old latency k
+        pub rounds-on : (k : ℕ) → (k ≡ 0 → ⊥) → risen < bound → (x : Reached) → x ≡ timely latest (roundsOf table stays fours bound new risen (k - 1))
+            → x ≡ timely latest (roundsOf table stays fours bound old latency k)
         unfolding roundsOf if_then_else_
         rounds-on zero more h x q = absurd (more refl)
         rounds-on (suc k) more h x q = q ∙ rw (← e, ← s, p, ← g, lt-leb bound risen h, sub-one (suc k))

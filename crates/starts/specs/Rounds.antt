@@ -1,50 +1,49 @@
 -- Rounds over a table of codes, as lists of 24 starts. Rows and columns past n are empty, so the starts past n stay 0.
-use Prim.Native.Nat.{ℕ, zero, suc, _+_, _*_, _-_, _≤_, _<_, max}
+use Prim.Native.Nat.{ℕ, zero, suc, _+_, _*_, _-_, max}
 use mathlib.Core.Bool.{Bool, true, false, _&&_}
 use mathlib.Core.List.{List, []}
 use lib.ListN.{getD}
 use lib.Dec.{eqb, leb}
 use Rattle.model.specs.Common.{if_then_else_}
 use Rattle.times.specs.Fill.{filled}
+use Rattle.times.specs.Ends.{noneLate}
 use Rattle.times.specs.Latency.{raisedBy}
 
--- old t_i + 1,000 + the weight in column j of row i, by its code; 0 for an empty place
-unfoldable pub sumAt : List (List ℕ) → List ℕ → ℕ → ℕ → ℕ
-sumAt table old j i = getD old i 0 + 2000 - getD (getD table i []) j 0
+-- each start plus 1,000
+unfoldable pub liftedOf : List ℕ → List ℕ
+liftedOf old = filled (λ j. getD old j 0 + 1000) 24 24
 
--- the largest of first and these sums over the first k rows, in column j
-unfoldable pub largest : List (List ℕ) → List ℕ → ℕ → ℕ → ℕ → ℕ
-largest table old j first zero = first
-largest table old j first (suc k) = max (largest table old j first k) (sumAt table old j k)
+-- less a weight's code, in column j of row i, that is old t_i + the weight, or 0; and 0 for an empty place
+unfoldable pub sumAt : List (List ℕ) → List ℕ → ℕ → ℕ → ℕ
+sumAt table high j i = getD high i 0 - getD (getD table i []) j 0
+
+-- the largest of these sums over the first k rows, in column j
+unfoldable pub largest : List (List ℕ) → List ℕ → ℕ → ℕ → ℕ
+largest table high j zero = 0
+largest table high j (suc k) = max (largest table high j k) (sumAt table high j k)
 
 -- start j after one more round over the first k rows, by what ends in it: column j
 unfoldable pub startOf : List (List ℕ) → List ℕ → ℕ → ℕ → ℕ
-startOf table old j k = largest table old j (getD old j 0 + 1000) k - 1000
+startOf table old j k = max (getD old j 0) (largest table (liftedOf old) j k)
 
 -- the starts after one more round over the first k rows
 unfoldable pub roundOf : List (List ℕ) → List ℕ → ℕ → List ℕ
 roundOf table old k = filled (λ j. startOf table old j k) 24 24
 
--- ---- the steps of a round: each start plus 1,000, four rows at a time, and back
+-- ---- the steps of a round: the sums, four rows at a time, and then the starts
 
 -- the largest of each column over the first k rows
 unfoldable pub raisedTo : List (List ℕ) → List ℕ → ℕ → List ℕ
-raisedTo table old k = filled (λ j. largest table old j (getD old j 0 + 1000) k) 24 24
-
-unfoldable pub liftedOf : List ℕ → List ℕ
-liftedOf old = filled (λ j. getD old j 0 + 1000) 24 24
-
-unfoldable pub loweredOf : List ℕ → List ℕ
-loweredOf new = filled (λ j. getD new j 0 - 1000) 24 24
-
--- no number is below 1,000
-pub record Lifted (l : List ℕ) : Type 0 where
-  pub each : (j : ℕ) → j < 24 → 1000 ≤ getD l j 0
+raisedTo table high k = filled (λ j. largest table high j k) 24 24
 
 -- each place with rows i to i + 3
 unfoldable pub fourRaised : List (List ℕ) → List ℕ → ℕ → List ℕ → List ℕ
-fourRaised table old i new =
-    filled (λ j. max (getD new j 0) (max (max (sumAt table old j i) (sumAt table old j (i + 1))) (max (sumAt table old j (i + 2)) (sumAt table old j (i + 3))))) 24 24
+fourRaised table high i new =
+    filled (λ j. max (getD new j 0) (max (max (sumAt table high j i) (sumAt table high j (i + 1))) (max (sumAt table high j (i + 2)) (sumAt table high j (i + 3))))) 24 24
+
+-- the larger at each place
+unfoldable pub highestOf : List ℕ → List ℕ → List ℕ
+highestOf old new = filled (λ j. max (getD old j 0) (getD new j 0)) 24 24
 
 -- the first k numbers agree
 unfoldable pub sameTo : List ℕ → List ℕ → ℕ → Bool
@@ -67,3 +66,7 @@ roundsOf table stays fours bound old latency (suc k) =
     let risen = raisedBy stays new latency in
     if sameTo old new 24 then record { starts = old; latency = latency; found = true }
     else (if leb bound risen then record { starts = new; latency = risen; found = false } else roundsOf table stays fours bound new risen k)
+
+-- found only if no start passes its latest either
+unfoldable pub timely : List ℕ → Reached → Reached
+timely latest r = record { starts = r .starts; latency = r .latency; found = r .found && noneLate latest (r .starts) 24 }

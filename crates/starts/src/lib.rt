@@ -3,7 +3,6 @@
 use crate::rounds::rounds;
 use crate::table::put_turns;
 use crate::table::store_delays;
-use times::ends::in_time;
 ghost use mathlib.Core.Path.{_≡_};
 ghost use Prim.Native.Nat.{_≤_, _<_};
 ghost use lib.ListN.{length};
@@ -49,5 +48,14 @@ pub fn least_starts(
     let mut table = [[65535u16; 24]; 24];
     store_delays(&mut table, m, from, to, code);
     put_turns(&mut table, depth, tail, head, gap);
-    rounds(&table, stays, starts, latency, bound, (n + 3) / 4, n) && in_time(latest, starts)
+    rounds(
+        &table,
+        stays,
+        latest,
+        starts,
+        latency,
+        bound,
+        (n + 3) / 4,
+        n,
+    )
 }

@@ -5,7 +5,6 @@ use crate::table::put_delays;
 use model::Batch;
 use model::wide;
 use times::ends::earliest_of;
-use times::ends::in_time;
 use times::ends::latest_of;
 use times::latency::raised_latency;
 use weights::delays::Delays;
@@ -13,13 +12,18 @@ use weights::delays::read_delays;
 ghost use mathlib.Core.Path.{_≡_};
 ghost use Rattle.model.specs.Open.{delaysMet};
 ghost use Rattle.times.specs.Fill.{Small};
-ghost use Rattle.times.specs.Ends.{earliestRead};
+ghost use Rattle.times.specs.Ends.{earliestRead, latestRead};
 ghost use Rattle.weights.specs.Delays.{DelaysSound, delaysRead};
 
-// With the delays as they were read from the batch. Only whether there are least starts is asked, so no job need stay.
-pub fn read_delays_met(batch: Batch, delays: Delays) -> bool
+// With the delays and the ends as they were read from the batch. Only whether there are least starts is asked, so no job need stay.
+pub fn read_delays_met(
+    batch: Batch,
+    delays: Delays,
+    earliest: &[u16; 24],
+    latest: &[u16; 24],
+) -> bool
     requires { ⌜ DelaysSound batch × Small (earliestRead batch) 20000 ⌝ }
-    requires { ⌜ delays ≡ delaysRead batch ⌝ }
+    requires { ⌜ (delays ≡ delaysRead batch) × ((now earliest ≡ earliestRead batch) × (now latest ≡ latestRead batch)) ⌝ }
     ensures { λ r. ⌜ r ≡ delaysMet batch ⌝ }
 {
     let from = delays.from;
@@ -30,19 +34,18 @@ pub fn read_delays_met(batch: Batch, delays: Delays) -> bool
     let m = wide(batch.m);
     let mut table = [[65535u16; 24]; 24];
     put_delays(&mut table, m, &from, &to, &code);
-    let mut starts = earliest_of(batch);
+    let mut starts = *earliest;
     let mut latency = raised_latency(0, &no_stays, &starts);
-    let settled = rounds(
+    rounds(
         &table,
         &no_stays,
+        latest,
         &mut starts,
         &mut latency,
         43017,
         (n + 3) / 4,
         n,
-    );
-    let latest = latest_of(batch);
-    settled && in_time(&latest, &starts)
+    )
 }
 
 pub fn delays_met(batch: Batch) -> bool
@@ -50,5 +53,7 @@ pub fn delays_met(batch: Batch) -> bool
     ensures { λ r. ⌜ r ≡ delaysMet batch ⌝ }
 {
     let read = read_delays(batch);
-    read_delays_met(batch, read.delays)
+    let earliest = earliest_of(batch);
+    let latest = latest_of(batch);
+    read_delays_met(batch, read.delays, &earliest, &latest)
 }

@@ -1,11 +1,9 @@
 // The earliest and the latest start of each job: what a run works out once. And whether starts are in time.
-use crate::latency::larger;
 use model::Batch;
 use model::wide;
 ghost use mathlib.Core.Path.{_≡_};
-ghost use lib.Dec.{eqb};
 ghost use Prim.Native.Nat.{_-_, _≤_};
-ghost use Rattle.times.specs.Ends.{earliestRead, latestRead, lateBy};
+ghost use Rattle.times.specs.Ends.{earliestRead, latestRead, noneLate};
 
 // The earliest start of each of the first n jobs, and 0 in the places past them.
 pub fn earliest_of(batch: Batch) -> [u16; 24]
@@ -14,9 +12,10 @@ pub fn earliest_of(batch: Batch) -> [u16; 24]
 {
     let mut earliest = [0u16; 24];
     let n = wide(batch.n);
+    let windows = batch.windows;
     let mut i: usize = 0;
     while i < n {
-        let window = batch.windows[i];
+        let window = windows[i];
         earliest[i] = window.earliest;
         i = i + 1;
     }
@@ -30,9 +29,10 @@ pub fn latest_of(batch: Batch) -> [u16; 24]
 {
     let mut latest = [0u16; 24];
     let n = wide(batch.n);
+    let windows = batch.windows;
     let mut i: usize = 0;
     while i < n {
-        let window = batch.windows[i];
+        let window = windows[i];
         latest[i] = window.latest;
         i = i + 1;
     }
@@ -49,16 +49,17 @@ pub fn less(a: u16, b: u16) -> u16
     a - b
 }
 
-// Whether no start passes its latest: the most by which one does is 0. A return at the first that does would keep the compiler from taking a whole row at
-// a time.
+// Whether no start passes its latest. The loop does not stop at the first that does: without a way out it is compiled to whole vectors.
 pub fn in_time(latest: &[u16; 24], starts: &[u16; 24]) -> bool
-    ensures { λ r. ⌜ r ≡ eqb (lateBy (now (latest .entry)) (now (starts .entry)) 24) 0 ⌝ }
+    ensures { λ r. ⌜ r ≡ noneLate (now (latest .entry)) (now (starts .entry)) 24 ⌝ }
 {
-    let mut late: u16 = 0;
+    let mut timely = true;
     let mut j: usize = 0;
     while j < 24 {
-        late = larger(late, less(starts[j], latest[j]));
+        if latest[j] < starts[j] {
+            timely = false;
+        }
         j = j + 1;
     }
-    late == 0
+    timely
 }

@@ -1,9 +1,8 @@
--- `least_starts` meets its contract: the local table is filled from the delays and then from the turns, the rounds go over it, and where they settle the
--- latest starts decide.
+-- `least_starts` meets its contract: the local table is filled from the delays and then from the turns, and the rounds go over it.
 use borrow.Author.Needs.{needs}
 use native.Mathlib.Omega.{arith}
 use Rattle.starts.specs.Table.{emptyTable}
-use Rattle.starts.proofs.LeastLaws.{least-settled, least-changed}
+use Rattle.starts.proofs.LeastLaws.{least-is}
 use Rattle.starts.proofs.Law.{fours-high}
 use Rattle.starts.proofs.least_starts.Statement.{statement}
 use Rattle.starts.proofs.least_starts.Tie as tie
@@ -23,13 +22,6 @@ least-starts-spec =
       omega (arith, fours-high _ (pre .0 .0)),
       (pre .1 .1 .1 .0 .0, (pre .1 .1 .1 .0 .1, pre .1 .1 .1 .1)),
     ))
-    (λ c κs. search needs)
-    -- they settled
     (λ c.
-    let settled = c .before .before .before in
-    let turns = settled .before .before .before .before in
-    least-settled _ _ _ _ _ _ _ _ _ _ (turns .before .before .store-delays .ensures) (turns .put-turns .ensures) _ _ _ _ _ _ _ _ _ (settled .rounds .ensures) (c .before .before .if1 .taken) _ (c .in-time .ensures))
-    (λ c.
-    let changed = c .before in
-    let turns = changed .before .before .before .before in
-    least-changed _ _ _ _ _ _ _ _ _ _ (turns .before .before .store-delays .ensures) (turns .put-turns .ensures) _ _ _ _ _ _ _ _ _ (changed .rounds .ensures) (c .if1 .left)))
+    let turns = c .before .before .before .before in
+    least-is _ _ _ _ _ _ _ _ _ _ _ _ _ _ _ _ _ (turns .before .before .store-delays .ensures) (turns .put-turns .ensures) (c .rounds .ensures)))

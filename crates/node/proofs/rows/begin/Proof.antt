@@ -27,7 +27,6 @@ begin-spec =
     (λ c. search needs)
     -- the last turn's jobs are below 24, and the row's starts are small
     (λ c. let pre = c .before .before .before .before .before .before .before .before .before .pre in let a = c .before .before .before .before .before .before .before .before .before .args in omega (arith, c .before .wide2 .ensures .0, pre .0 .1 .to (a .depth - 1) (omega (arith, c .before .before .before .before .before .before .before .before .if1 .left))))
-    (λ c. let pre = c .before .before .before .before .before .before .before .before .before .pre in let a = c .before .before .before .before .before .before .before .before .before .args in omega (arith, pre .1 .1 .starts ((a .depth - 1) % 32) .each (c .before .wide2 .result)))
     (λ c. search needs)
     (λ c. let pre = c .before .before .before .before .before .before .before .before .before .pre in let a = c .before .before .before .before .before .before .before .before .before .args in omega (arith, c .before .before .before .wide .ensures .0, pre .0 .1 .from (a .depth - 1) (omega (arith, c .before .before .before .before .before .before .before .before .if1 .left))))
     (λ c. let a = c .before .before .before .before .before .before .before .before .before in omega (arith, a .pre .1 .1 .starts ((a .args .depth - 1) % 32) .each (c .before .before .before .wide .result)))
@@ -35,7 +34,6 @@ begin-spec =
     (λ c. search needs)
     (λ c κs. search needs)
     (λ c κs. search needs)
-    (λ c. omega (arith, c .larger .ensures))
     (λ c. search needs)
     (λ c. let a = c .before .before .before .before .before .before .before .before .before .before .before .before in omega (arith, c .before .before .before .before .wide2 .ensures .0, a .pre .0 .1 .to (a .args .depth - 1) (omega (arith, c .before .before .before .before .before .before .before .before .before .before .before .if1 .left))))
     (λ c. search needs)

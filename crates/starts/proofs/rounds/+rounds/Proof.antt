@@ -7,14 +7,15 @@ use borrow.Fn.PlainCycle.{Measures, is, falls, and}
 use Rattle.starts.proofs.rounds.rounds.Reads as rounds
 use Rattle.starts.proofs.rounds.rounds.Kinds as rounds-kinds
 use Rattle.starts.proofs.rounds.+rounds.Lts-rounds as rounds-lts
+use Rattle.times.proofs.ends.in_time.Reads as in-time-reads
 use Rattle.times.proofs.latency.raised_latency.Reads as raised-latency-reads
 use Rattle.starts.proofs.rounds.round.Reads as round-reads
 use Rattle.starts.proofs.rounds.same.Reads as same-reads
 use Rattle.starts.proofs.rounds.+rounds.{statement}
 use Rattle.starts.proofs.rounds.+rounds.Tie.{close}
 
-abbrev μ-rounds : Measures 4 rounds-kinds.ps ℕ
-μ-rounds κs a = a .1 .1 .1 .1 .1 .1 .0
+abbrev μ-rounds : Measures 5 rounds-kinds.ps ℕ
+μ-rounds κs a = a .1 .1 .1 .1 .1 .1 .1 .0
 
 pub +rounds-spec : {M : Type 1} → statement M
 +rounds-spec =
@@ -24,23 +25,26 @@ pub +rounds-spec : {M : Type 1} → statement M
       round-reads.Learnt,
       same-reads.Asked,
       same-reads.Learnt,
+      in-time-reads.Asked,
+      in-time-reads.Learnt,
       raised-latency-reads.Asked,
       raised-latency-reads.Learnt,
-      and 4 rounds-kinds.ps (falls 4 rounds-kinds.ps _<_ μ-rounds t) rounds.Pre,
+      and 5 rounds-kinds.ps (falls 5 rounds-kinds.ps _<_ μ-rounds t) rounds.Pre,
       rounds.Post,
-    ) (and 4 rounds-kinds.ps (is 4 rounds-kinds.ps μ-rounds t) rounds.Pre) rounds.Post
+    ) (and 5 rounds-kinds.ps (is 5 rounds-kinds.ps μ-rounds t) rounds.Pre) rounds.Post
     -- k is 0
-    (λ c. rounds-none _ _ _ _ _ _ _ (c .if1 .taken))
+    (λ c. rounds-none _ _ _ _ _ _ _ _ (c .if1 .taken))
     (λ c κs.
     let pre = c .before .before .pre .1 in
     let l = pre .1 .1 .1 in
     (pre .0, below-small _ _ _ _ (pre .1 .1 .0) (l .0) (l .1 .0) (l .1 .1)))
     (λ c κs. tt)
-    -- a round without change
+    (λ c κs. tt)
+    -- a round without change: the latest starts decide
     (λ c.
-    let made = c .before .before .before .before in
-    let more = made .before .before in
-    rounds-end _ _ _ _ _ _ _ _ (made .round .ensures) (c .before .same .ensures) _ (more .if1 .left) (c .if2 .taken))
+    let settled = c .before .before in
+    let made = settled .before .before .before .before in
+    rounds-end _ _ _ _ _ _ _ _ _ (made .round .ensures) (settled .before .same .ensures) _ (made .before .before .if1 .left) (settled .if2 .taken) _ (c .in-time .ensures))
     -- the latency raised by the new starts
     (λ c κs.
     let made = c .before .before .before .before .before .before in
@@ -51,7 +55,7 @@ pub +rounds-spec : {M : Type 1} → statement M
     (λ c.
     let changed = c .before .before .before .before in
     let made = changed .before .before .before .before in
-    rounds-stop _ _ _ _ _ _ _ _ (made .round .ensures) (changed .before .same .ensures) _ (c .before .raised-latency .ensures) (changed .if2 .left) _ (made .before .before .if1 .left) (c .if3 .taken))
+    rounds-stop _ _ _ _ _ _ _ _ _ (made .round .ensures) (changed .before .same .ensures) _ (c .before .raised-latency .ensures) (changed .if2 .left) _ (made .before .before .if1 .left) (c .if3 .taken))
     (λ c. omega (arith, c .before .before .before .before .before .before .before .before .before .before .before .before .if1 .left))
     -- what the next call asks: the latency is that of its starts
     (λ c κs.
@@ -78,4 +82,4 @@ pub +rounds-spec : {M : Type 1} → statement M
     let risen = c .before .before .before .before in
     let changed = risen .before .before .before in
     let made = changed .before .before .before .before in
-    rounds-on _ _ _ _ _ _ _ _ (made .round .ensures) (changed .before .same .ensures) _ (risen .raised-latency .ensures) (changed .if2 .left) _ (made .before .before .if1 .left) (omega (arith, c .before .before .before .if3 .left)) _ (c .rounds .ensures)))
+    rounds-on _ _ _ _ _ _ _ _ _ (made .round .ensures) (changed .before .same .ensures) _ (risen .raised-latency .ensures) (changed .if2 .left) _ (made .before .before .if1 .left) (omega (arith, c .before .before .before .if3 .left)) _ (c .rounds .ensures)))

@@ -11,28 +11,28 @@ use Rattle.starts.proofs.rounds.lifted.Statement.{statement}
 use Rattle.starts.proofs.rounds.lifted.Tie as tie
 
 abbrev Inv-loop : tie.InvT-loop
-Inv-loop old new₀ j₀ new j = (j ≤ 24) × (new ≡ filled (λ k. getD old k 0 + 1000) 24 j)
+Inv-loop old high₀ j₀ high j = (j ≤ 24) × (high ≡ filled (λ k. getD old k 0 + 1000) 24 j)
 
 abbrev μ-loop : tie.MeasureT-loop
-μ-loop old new₀ j₀ new j = 24 - j
+μ-loop old high₀ j₀ high j = 24 - j
 
 loop-holds : tie.Need-loop-holds Inv-loop μ-loop
 loop-holds c = (search needs, filled-none _ 24)
 
-mul-new : tie.Need-mul-new Inv-loop μ-loop
-mul-new c = search needs
+mul-high : tie.Need-mul-high Inv-loop μ-loop
+mul-high c = search needs
 
-element-copy-out-new : tie.Need-element-copy-out-new Inv-loop μ-loop
-element-copy-out-new c = search needs
+element-copy-out-high : tie.Need-element-copy-out-high Inv-loop μ-loop
+element-copy-out-high c = search needs
 
-add-new : tie.Need-add-new Inv-loop μ-loop
-add-new c = omega (arith, c .before .before .before .pre .each (c .before .before .loop .j))
+add-high : tie.Need-add-high Inv-loop μ-loop
+add-high c = omega (arith, c .before .before .before .pre .each (c .before .before .loop .j))
 
-mul-new-2 : tie.Need-mul-new-2 Inv-loop μ-loop
-mul-new-2 c = search needs
+mul-high-2 : tie.Need-mul-high-2 Inv-loop μ-loop
+mul-high-2 c = search needs
 
-array-write-new : tie.Need-array-write-new Inv-loop μ-loop
-array-write-new c = search needs
+array-write-high : tie.Need-array-write-high Inv-loop μ-loop
+array-write-high c = search needs
 
 add-j : tie.Need-add-j Inv-loop μ-loop
 add-j c = search needs
@@ -54,11 +54,11 @@ lifted-spec =
     Inv-loop
     μ-loop
     loop-holds
-    mul-new
-    element-copy-out-new
-    add-new
-    mul-new-2
-    array-write-new
+    mul-high
+    element-copy-out-high
+    add-high
+    mul-high-2
+    array-write-high
     add-j
     loop-less
     loop-again

@@ -12,12 +12,12 @@ use Rattle.starts.proofs.rounds.raised.Statement.{statement}
 use Rattle.starts.proofs.rounds.raised.Tie as tie
 
 abbrev Inv-loop : tie.InvT-loop
-Inv-loop table old i new more₀ j₀ more j =
+Inv-loop table high i new more₀ j₀ more j =
     (j ≤ 24)
-    × (more ≡ filled (λ k. max (getD new k 0) (max (max (sumAt table old k i) (sumAt table old k (i + 1))) (max (sumAt table old k (i + 2)) (sumAt table old k (i + 3))))) 24 j)
+    × (more ≡ filled (λ k. max (getD new k 0) (max (max (sumAt table high k i) (sumAt table high k (i + 1))) (max (sumAt table high k (i + 2)) (sumAt table high k (i + 3))))) 24 j)
 
 abbrev μ-loop : tie.MeasureT-loop
-μ-loop table old i new more₀ j₀ more j = 24 - j
+μ-loop table high i new more₀ j₀ more j = 24 - j
 
 loop-holds : tie.Need-loop-holds Inv-loop μ-loop
 loop-holds c = (search needs, filled-none _ 24)

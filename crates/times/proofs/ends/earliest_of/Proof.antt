@@ -1,21 +1,21 @@
 -- `earliest_of` meets its contract. The loop's invariant: the first i places have the earliest starts of the first i jobs.
 use native.Mathlib.Omega.{arith}
 use borrow.Author.Needs.{needs}
-use mathlib.Core.Path.{_≡_}
+use mathlib.Core.Path.{_≡_, ap}
 use Prim.Native.Nat.{_≤_, _-_}
 use lib.ListN.{length, length-map}
-use Rattle.model.specs.Batch.{earliest}
+use Rattle.model.specs.declared.Window.{Window}
 use Rattle.times.specs.Fill.{filled}
 use Rattle.times.proofs.FillLaws.{filled-none, filled-more}
-use Rattle.times.proofs.EndsLaws.{earliest-told, earliest-read}
+use Rattle.times.proofs.EndsLaws.{windowIn, window-told, earliest-read}
 use Rattle.times.proofs.ends.earliest_of.Statement.{statement}
 use Rattle.times.proofs.ends.earliest_of.Tie as tie
 
 abbrev Inv-loop : tie.InvT-loop
-Inv-loop batch earliest₀ n i₀ made i = (i ≤ n) × (made ≡ filled (earliest batch) 24 i)
+Inv-loop earliest₀ n windows i₀ made i = (i ≤ n) × (made ≡ filled (λ k. windowIn windows k .earliest) 24 i)
 
 abbrev μ-loop : tie.MeasureT-loop
-μ-loop batch earliest₀ n i₀ made i = n - i
+μ-loop earliest₀ n windows i₀ made i = n - i
 
 pub earliest-of-spec : {M : Type 1} → statement M
 earliest-of-spec =
@@ -30,7 +30,7 @@ earliest-of-spec =
     (λ c. search needs)
     (λ c. search needs)
     (λ c.
-    let a = c .before .before .before .before in
-    let full : length (a .args .t1 .windows) ≡ 24 = simp length-map at (a .good .0 .1 .1 .1 .1 .1 .1 .1 .0 .1 .0 .1) in
-    (search needs, filled-more _ 24 _ _ _ (c .before .before .loop .inv .1) (earliest-told (a .args .t1) _ (omega (arith, full, c .before .loop-test .taken, a .pre, c .before .before .before .wide .ensures .0)))))
-    (λ c. earliest-read _ _ _ _ (c .before .before .wide .ensures .0) (c .before .loop .inv .0) (c .loop-test .left) (c .before .loop .inv .1)))
+    let a = c .before .before .before .before .before in
+    let full : length (a .args .batch .windows) ≡ 24 = simp length-map at (a .good .0 .1 .1 .1 .1 .1 .1 .1 .0 .1 .0 .1) in
+    (search needs, filled-more _ 24 _ _ _ (c .before .before .loop .inv .1) (ap (λ (w : Window). w .earliest) (window-told (a .args .batch .windows) _ (omega (arith, full, c .before .loop-test .taken, a .pre, c .before .before .before .before .wide .ensures .0))))))
+    (λ c. earliest-read _ _ _ _ (c .before .before .before .wide .ensures .0) (c .before .loop .inv .0) (c .loop-test .left) (c .before .loop .inv .1)))
