@@ -7,8 +7,7 @@ use clashes::Clashes;
 use clashes::list_clashes;
 use model::Search;
 use starts::met::read_delays_met;
-use times::ends::earliest_of;
-use times::ends::latest_of;
+use times::ends::ends_of;
 use times::stays::stays_of;
 use weights::delays::Delays;
 use weights::delays::read_delays;
@@ -78,14 +77,15 @@ pub fn examine(search: Search) -> Examined
     if 1024 < count {
         return unsound();
     }
-    let earliest = earliest_of(batch);
-    let latest = latest_of(batch);
-    if !read_delays_met(batch, delays, &earliest, &latest) {
+    let ends = ends_of(batch);
+    if !read_delays_met(batch, delays, ends) {
         return unsound();
     }
     let path = search.path;
     let route = read_path(path, count);
     let turns = route.turns;
+    let earliest = ends.earliest;
+    let latest = ends.latest;
     Examined {
         sound: state_ok(search, route),
         clashes: clashes,

@@ -34,13 +34,15 @@ windowIn ws i = getD ws i blankWindow
 pub window-told : (ws : List Window) (i : ℕ) → i < length ws → windowAt ws i ≡ windowIn ws i
 window-told ws i h = getD-same ws i (record { lined = 0; earliest = 0; latest = 0 }) blankWindow h
 
-pub earliest-read : (b : Batch) (l : List ℕ) (n i : ℕ) → n ≡ b .n → i ≤ n → n ≤ i → l ≡ filled (λ k. windowIn (b .windows) k .earliest) 24 i → l ≡ earliestRead b
-unfolding earliestRead earliest windowOf
-earliest-read b l n i e h g p = let s : i ≡ b .n = omega arith in rw (p, s)
+-- what the loop has made when it ends
+module _ (b : Batch) (n i : ℕ) (e : n ≡ b .n) (h : i ≤ n) (g : n ≤ i) (l : List ℕ) where
+  pub earliest-read : l ≡ filled (λ k. windowIn (b .windows) k .earliest) 24 i → l ≡ earliestRead b
+  unfolding earliestRead earliest windowOf
+  earliest-read p = let s : i ≡ b .n = omega arith in rw (p, s)
 
-pub latest-read : (b : Batch) (l : List ℕ) (n i : ℕ) → n ≡ b .n → i ≤ n → n ≤ i → l ≡ filled (λ k. windowIn (b .windows) k .latest) 24 i → l ≡ latestRead b
-unfolding latestRead latest windowOf
-latest-read b l n i e h g p = let s : i ≡ b .n = omega arith in rw (p, s)
+  pub latest-read : l ≡ filled (λ k. windowIn (b .windows) k .latest) 24 i → l ≡ latestRead b
+  unfolding latestRead latest windowOf
+  latest-read p = let s : i ≡ b .n = omega arith in rw (p, s)
 
 -- the earliest starts are those of the definition
 pub earliest-is : (b : Batch) → b .n ≤ 24 → earliestRead b ≡ pad 24 0 (earliestStarts b)

@@ -5,38 +5,28 @@ ghost use mathlib.Core.Path.{_≡_};
 ghost use Prim.Native.Nat.{_-_, _≤_};
 ghost use Rattle.times.specs.Ends.{earliestRead, latestRead, noneLate};
 
-// The earliest start of each of the first n jobs, and 0 in the places past them.
-pub fn earliest_of(batch: Batch) -> [u16; 24]
-    requires { ⌜ batch .n ≤ 24 ⌝ }
-    ensures { λ r. ⌜ r ≡ earliestRead batch ⌝ }
-{
-    let mut earliest = [0u16; 24];
-    let n = wide(batch.n);
-    let windows = batch.windows;
-    let mut i: usize = 0;
-    while i < n {
-        let window = windows[i];
-        earliest[i] = window.earliest;
-        i = i + 1;
-    }
-    earliest
+// Those of the first n jobs, and 0 in the places past them.
+pub struct Ends {
+    pub earliest: [u16; 24],
+    pub latest: [u16; 24],
 }
 
-// The same of the latest starts.
-pub fn latest_of(batch: Batch) -> [u16; 24]
+pub fn ends_of(batch: Batch) -> Ends
     requires { ⌜ batch .n ≤ 24 ⌝ }
-    ensures { λ r. ⌜ r ≡ latestRead batch ⌝ }
+    ensures { λ r. ⌜ (r .earliest ≡ earliestRead batch) × (r .latest ≡ latestRead batch) ⌝ }
 {
+    let mut earliest = [0u16; 24];
     let mut latest = [0u16; 24];
     let n = wide(batch.n);
     let windows = batch.windows;
     let mut i: usize = 0;
     while i < n {
         let window = windows[i];
+        earliest[i] = window.earliest;
         latest[i] = window.latest;
         i = i + 1;
     }
-    latest
+    Ends { earliest, latest }
 }
 
 // The difference, 0 at least.

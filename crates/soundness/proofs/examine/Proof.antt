@@ -34,19 +34,15 @@ unsound-requires-3 c κs = search needs
 returns-3 : tie.Need-returns-3
 returns-3 c = many-clashes _ _ (c .unsound3 .ensures) _ (c .before .before .list-clashes .ensures) (c .before .if3 .taken)
 
-earliest-of-requires : tie.Need-earliest-of-requires
-earliest-of-requires c κs = let passed = c .before .before .before .before .before .before in counts-jobs _ _ (passed .before .limits-pass .ensures) (passed .if1 .left)
-
-latest-of-requires : tie.Need-latest-of-requires
-latest-of-requires c κs = let passed = c .before .before .before .before .before .before .before in counts-jobs _ _ (passed .before .limits-pass .ensures) (passed .if1 .left)
+ends-of-requires : tie.Need-ends-of-requires
+ends-of-requires c κs = let passed = c .before .before .before .before .before .before in counts-jobs _ _ (passed .before .limits-pass .ensures) (passed .if1 .left)
 
 read-delays-met-requires : tie.Need-read-delays-met-requires
 read-delays-met-requires c κs =
-    let ends = c .before .before in
-    let ok = ends .before .before .before .before .before .if2 .left in
-    let read = ends .before .before .before .before .before .before .before in (
+    let ok = c .before .before .before .before .if2 .left in
+    let read = c .before .before .before .before .before .before in (
       (passed-delays _ _ (read .before .before .limits-pass .ensures) (read .before .if1 .left) _ (read .read-delays .ensures) ok, limits-soon _ _ (read .before .before .limits-pass .ensures) (read .before .if1 .left)),
-      (read .read-delays .ensures .ready (passes refl ok), (ends .before .earliest-of .ensures, ends .latest-of .ensures)),
+      (read .read-delays .ensures .ready (passes refl ok), c .ends-of .ensures),
     )
 
 unsound-requires-4 : tie.Need-unsound-requires-4
@@ -60,25 +56,25 @@ read-path-requires c κs = search needs
 
 state-ok-requires : tie.Need-state-ok-requires
 state-ok-requires c κs =
-    let listed = c .before .before .before .before .before .before .before .before .before .before in (
-      counted _ _ _ _ (listed .list-clashes .ensures) (c .before .read-path .ensures),
+    let listed = c .before .before .before .before .before .before .before .before .before in (
+      counted _ _ _ _ (listed .list-clashes .ensures) (c .before .before .before .read-path .ensures),
       counts-jobs _ _ (listed .before .before .before .before .before .before .limits-pass .ensures) (listed .before .before .before .before .before .if1 .left),
     )
 
 stays-of-requires : tie.Need-stays-of-requires
-stays-of-requires c κs = let passed = c .before .before .before .before .before .before .before .before .before .before .before .before .before .before .before .before in counts-tabled _ _ (passed .before .limits-pass .ensures) (passed .if1 .left)
+stays-of-requires c κs = let passed = c .before .before .before .before .before .before .before .before .before .before .before .before .before .before .before in counts-tabled _ _ (passed .before .limits-pass .ensures) (passed .if1 .left)
 
 returns-5 : tie.Need-returns-5
 returns-5 c =
-    let path = c .before .before .before in
+    let path = c .before .before .before .before .before in
     let met = path .before .before in
-    let ends = met .before .before .before .before in
-    let few = ends .before .before in
+    let ends = met .before .before in
+    let few = ends .before in
     let read = few .before .before .before in
     let passed = read .before .before .before in
     examined _ _ _ _ _ _ _ _ _ _ (passed .before .limits-pass .ensures) (passed .if1 .left) (read .before .before .read-delays .ensures) (read .if2 .left)
     (few .before .list-clashes .ensures) (few .if3 .left) (met .before .read-delays-met .ensures) (met .if4 .left) (path .read-path .ensures) (c .before .state-ok .ensures)
-    (c .stays-of .ensures) (ends .before .earliest-of .ensures) (ends .latest-of .ensures)
+    (c .stays-of .ensures) (ends .ends-of .ensures .0) (ends .ends-of .ensures .1)
 
 pub examine-spec : {M : Type 1} → statement M
 examine-spec =
@@ -93,8 +89,7 @@ examine-spec =
     list-clashes-requires
     unsound-requires-3
     returns-3
-    earliest-of-requires
-    latest-of-requires
+    ends-of-requires
     read-delays-met-requires
     unsound-requires-4
     returns-4

@@ -10,9 +10,5 @@ delays-met-spec =
     (tie.spec
     (λ c κs. search needs)
     (λ c κs. search needs)
-    (λ c κs. search needs)
-    (λ c κs.
-    let first = c .before .before .before in
-    let read = first .before in
-    (read .before .pre, (sound-read _ (read .before .pre .0) _ (read .read-delays .ensures), (first .earliest-of .ensures, c .before .before .latest-of .ensures))))
+    (λ c κs. let start = c .before .before in (start .pre, (sound-read _ (start .pre .0) _ (c .before .read-delays .ensures), c .ends-of .ensures)))
     (λ c. search needs))

@@ -17,17 +17,17 @@ read-delays-met-spec =
     (λ c κs. search needs)
     (λ c κs.
     let m = c .before .before .before .before in
-    let pre = m .before .before .before .before .before .pre in
+    let pre = m .before .before .before .before .before .before .pre in
     (omega (arith, m .wide2 .ensures .0, pre .0 .0 .few), met-placed _ (pre .0 .0) _ (pre .1 .0) _ (m .wide2 .ensures .0)))
     -- the earliest starts are small
-    (λ c κs. let pre = c .before .before .before .before .before .before .before .before .before .before .before .before .before .pre in (zeros-small _ 24, begin-small _ (pre .0 .1) _ (pre .1 .1 .0)))
-    (λ c. omega (arith, c .before .before .before .before .before .before .before .before .before .before .before .before .before .before .wide .ensures .1))
+    (λ c κs. let pre = c .before .before .before .before .before .before .before .before .before .before .before .before .before .before .pre in (zeros-small _ 24, begin-small _ (pre .0 .1) _ (pre .1 .1 .0)))
+    (λ c. omega (arith, c .before .before .before .before .before .before .before .before .before .before .before .before .before .before .before .wide .ensures .1))
     (λ c κs.
-    let n = c .before .before .before .before .before .before .before .before .before .before .before .before .before .before in
-    let pre = n .before .before .before .before .pre in
-    (omega (arith, fours-high _ (pre .0 .0 .most), n .wide .ensures .0), (zeros-small _ 24, begin-fits _ (pre .0 .1) _ (pre .1 .1 .0) _ (c .before .before .before .before .raised-latency .ensures))))
+    let n = c .before .before .before .before .before .before .before .before .before .before .before .before .before .before .before in
+    let pre = n .before .before .before .before .before .pre in
+    (omega (arith, fours-high _ (pre .0 .0 .most), n .wide .ensures .0), (zeros-small _ 24, begin-fits _ (pre .0 .1) _ (pre .1 .1 .0) _ (c .before .before .before .before .before .raised-latency .ensures))))
     (λ c.
-    let put = c .before .before .before .before .before .before .before .before .before in
+    let put = c .before .before .before .before .before .before .before .before .before .before in
     let m = put .before .before .before .before .before in
-    let pre = m .before .before .before .before .before .pre in
-    met-is _ (pre .0 .0) _ (pre .1 .0) _ (m .wide2 .ensures .0) _ (put .put-delays .ensures) (pre .0 .1) _ (m .before .wide .ensures .0) _ _ (pre .1 .1 .0) (pre .1 .1 .1) _ (c .before .before .before .before .before .raised-latency .ensures) _ (c .rounds .ensures)))
+    let pre = m .before .before .before .before .before .before .pre in
+    met-is _ (pre .0 .0) _ (pre .1 .0) _ (m .wide2 .ensures .0) _ (put .put-delays .ensures) (pre .0 .1) _ (m .before .wide .ensures .0) _ _ (pre .1 .1 .0) (pre .1 .1 .1) _ (c .before .before .before .before .before .before .raised-latency .ensures) _ (c .rounds .ensures)))
