@@ -282,7 +282,7 @@ const CLAUSES: &[Clause] = &[
     ("ends that cannot be met", passed_ends),
 ];
 
-/// The starts after the rounds with the delays alone; nothing where a delay names no job of the batch.
+/// The starts after the rounds by the delays, from the earliest starts on; nothing where a delay names no job of the batch.
 fn rounds_of(it: &Parts) -> Option<Option<Vec<i64>>> {
     let n = it.record.n;
     let named = n <= 24 && it.delays.iter().all(|&(i, j, _)| i < n && j < n);

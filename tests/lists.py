@@ -162,8 +162,8 @@ def foreign(rng, batch):
         calls = [opening(batch.data)]
         for place, clash in enumerate(rng.sample(range(batch.clashes), rng.randint(0, min(batch.clashes, 6)))):
             calls += turn(place, clash, rng.randint(0, 1))
-        calls.append("S 9 0 0 %d" % rng.choice([NONE, NONE, 0, rng.randint(1, 30), 23016]))
-        calls.append("S 10 0 0 %d" % rng.randint(0, 23000))
+        calls.append("S 9 0 0 %d" % rng.choice([NONE, NONE, 0, rng.randint(1, 30), 43016]))
+        calls.append("S 10 0 0 %d" % rng.randint(0, 43000))
         calls += ["S 10 23 0 60000", "S 2 23 0 255", "S 3 23 3 77", "S 6 127 0 0", "S 4 127 0 255"]
         calls.append("S 11 0 0 %d" % rng.choice([0, 5, 99999990, 99999999, 100000000]))
         yield "foreign records", calls + ["D", "R 1 24", "R 0 24", "R 2 24", "D", "R 30 25", "D", "R 2000 24", "D", "P 240"]
@@ -248,7 +248,7 @@ def clash_states(jobs):
     order = [(k, k + 1, 16) for k in range(len(jobs) - 1)]
     yield first
     yield first + ["R 50 24"]
-    yield first + turns + ["S 9 0 0 23016", "S 10 0 0 23000", "S 11 0 0 99999000"]
+    yield first + turns + ["S 9 0 0 43016", "S 10 0 0 43000", "S 11 0 0 99999000"]
     yield [opening(joined(lines(jobs, order))), "R 1 24"]
 
 

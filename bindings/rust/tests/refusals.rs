@@ -39,7 +39,7 @@ fn words() {
 #[test]
 fn opening() {
     let crowd = Batch { jobs: vec![vec![1; 16]; 9], ..Batch::default() }.file();
-    let rows: [(&[u8], Refusal, u8); 22] = [
+    let rows: [(&[u8], Refusal, u8); 26] = [
         (b"A0010\n", Refusal::Line, 1),
         (b"A0010100\nA10100\n", Refusal::Frame, 2),
         (b"A0030100\nA1010001\n", Refusal::Edition, 3),
@@ -52,13 +52,17 @@ fn opening() {
         (b"A0010202\nA1010001\nA1010002\nA200010001\nA201000000\n", Refusal::Delays, 10),
         (b"A0020100\nA1010001\n\n", Refusal::Line, 1),
         (b"A0020100\nA1010001\na30000000001\n", Refusal::Line, 1),
+        (b"A0020100\nA1010001\nA30000000001", Refusal::Line, 1),
         (b"A0020100\nA1010001\nA300000000\n", Refusal::Frame, 2),
+        (b"A0020100\nA1010001\nA3000000000100\n", Refusal::Frame, 2),
         (b"A0020100\nA1010001\nA40001\n", Refusal::Frame, 2),
         (b"A0020200\nA1010001\nA1010002\nA200010001\n", Refusal::Frame, 2),
+        (b"A0020200\nA1010001\nA1010002\nA30000000001\nA200010001\n", Refusal::Frame, 2),
         (b"A0010100\nA1010001\nA30000000001\n", Refusal::Extra, 8),
         (b"A0020201\nA1010001\nA1010002\nA200010005\nA30100000004\n", Refusal::Delays, 10),
         (b"A0020100\nA1010001\nA30100000001\n", Refusal::Window, 20),
         (b"A0020100\nA1010001\nA30000000001\nA30000000001\n", Refusal::Window, 20),
+        (b"A0020200\nA1010001\nA1010002\nA30100000001\nA30000000001\n", Refusal::Window, 20),
         (b"A0020100\nA1010001\nA3004E21FFFF\n", Refusal::Window, 20),
         (b"A0020100\nA1010001\nA30000020001\n", Refusal::Window, 20),
         (b"A0020100\nA1010001\nA30000020001\nG\n", Refusal::Window, 20),

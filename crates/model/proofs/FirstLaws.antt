@@ -1,5 +1,5 @@
 -- Edition 01 after Q-4: a file of it, and every sound record of it, has the ends 0 and 65,535, which no least start passes. So its least starts, its shortest plans
--- and whether there is a plan are document 01's (specs/First), and a file that does not begin with a header of edition 02 opens, or is refused, as 01 says.
+-- and whether there is a plan are 01's, as specs/First has them, and a file that does not begin with a header of edition 02 opens, or is refused, as 01 says.
 use Prim.Native.Nat.{ℕ, zero, suc, _+_, _*_, _≤_, _<_, pred}
 use mathlib.Core.Path.{_≡_, refl, ap, ap₂, sym, _∙_, subst}
 use mathlib.Core.Logic.{_⊎_, inl, inr, ⊎-elim, _↔_, _≢_}

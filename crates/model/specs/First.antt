@@ -1,5 +1,5 @@
--- Document 01 alone, in the words that stood before request Q-4 of 02: one edition, nothing after the delays, and starts with no ends. model/proofs/FirstLaws says
--- what today's definitions make of a file of edition 01, and of every sound record of it: this, and nothing else.
+-- What stood before request Q-4 of 02, in the words of then: document 01, with the latency of Q-3. One edition, nothing after the delays, and starts with no ends.
+-- model/proofs/FirstLaws says what today's definitions make of a file of edition 01, and of every sound record of it: this, and nothing else; "01" is there this file.
 use Prim.Native.Nat.{ℕ, zero, suc, _+_, _≤_, _<_, pred}
 use mathlib.Core.Path.{_≡_}
 use mathlib.Core.Bool.{Bool, true, false}

@@ -115,8 +115,10 @@ rows =
     ∷ opens c3 (3 ∷ 0 ∷ 1000000 ∷ []) 3 (planAt 3 3 (1 ∷ 0 ∷ []) ∷ planAt 3 3 (1 ∷ 0 ∷ []) ∷ planAt 3 3 (1 ∷ 0 ∷ []) ∷ [])
     -- a refused run changes nothing
     ∷ opens c3 (2 ∷ 1000001 ∷ 1 ∷ []) 3 (spentAt 2 ∷ refusedRun 11 ∷ planAt 3 3 (1 ∷ 0 ∷ []) ∷ [])
-    -- edition 02 (02, Q-4): without further lines; delays go on from an earliest start, weights below 0 too; a line is its own job's alone
+    -- edition 02 (02, Q-4): without further lines, and with one that has the ends of none; delays go on from an earliest start, weights below 0 too;
+    -- a line is its own job's alone
     ∷ opens "A0020200 A1010001 A103000100020002" once 3 (planAt 3 3 (1 ∷ 0 ∷ []) ∷ [])
+    ∷ opens "A0020100 A1010001 A3000000FFFF" once 1 (planAt 1 1 (0 ∷ []) ∷ [])
     ∷ opens "A0020201 A1010001 A1010002 A200010001 A3000005FFFF" once 1 (planAt 7 1 (5 ∷ 6 ∷ []) ∷ [])
     ∷ opens "A0020201 A1010001 A1010002 A20001FFFE A3000005FFFF" once 1 (planAt 6 1 (5 ∷ 3 ∷ []) ∷ [])
     ∷ opens "A0020200 A1010001 A1010002 A30100050009" once 1 (planAt 6 1 (0 ∷ 5 ∷ []) ∷ [])
@@ -137,15 +139,18 @@ rows =
     ∷ refusedWith 20 (fileOf "A0020100 A1010001 A3010000FFFF")
     ∷ refusedWith 20 (fileOf "A0020200 A1010001 A1010002 A3000000FFFF A3000000FFFF")
     ∷ refusedWith 20 (fileOf "A0020200 A1010001 A1010002 A3010000FFFF A3000000FFFF")
-    -- 2 before 20, a byte too many, an unknown kind, 1 before 2, a delay too many, a kind too early, 7, an empty line, no 0A
+    -- 2 before 20, a byte too many, an unknown kind, 1 before 2, a delay too many, before and after a window, a kind too early, 7, an empty line, lower
+    -- case, no 0A
     ∷ refusedWith 2 (fileOf "A0020100 A1010001 A301000000")
     ∷ refusedWith 2 (fileOf "A0020100 A1010001 A30000000000FF")
     ∷ refusedWith 2 (fileOf "A0020100 A1010001 A70001")
     ∷ refusedWith 1 (fileOf "A0020100 A1010001 A7000")
     ∷ refusedWith 2 (fileOf "A0020201 A1010001 A1010002 A200010000 A200010000")
+    ∷ refusedWith 2 (fileOf "A0020201 A1010001 A1010002 A200010000 A3000000FFFF A200010000")
     ∷ refusedWith 2 (fileOf "A0020101 A1010001 A3000000FFFF")
     ∷ refusedWith 7 (fileOf "A0020101 A1010001")
     ∷ refusedWith 1 (fileOf "A0020100 A1010001 ")
+    ∷ refusedWith 1 (fileOf "A0020100 A1010001 A3000000FFFf")
     ∷ refusedWith 1 (characters "A0020100 A1010001 A3000000FFFF")
     -- line by line; 8 in edition 01; 20 before 10
     ∷ refusedWith 20 (fileOf "A0020100 A1010001 A3010000FFFF A3000")

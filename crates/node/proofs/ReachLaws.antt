@@ -96,10 +96,10 @@ module _ (b : Batch) (sizes : Sizes) (kit : Kit) (t : Trail) (walk : Walk) (w : 
   first-latency = w .first ∙ ap (λ (l : List ℕ). latencyOf (kit .stays) l 24) (w .earliest)
 
   -- what the node begins with
-  module _ (zero : List ℕ) (z : zero ≡ kit .earliest) (made : List ℕ × ℕ) (e : made ≡ begun (t .rows) (t .tags) (t .ends) (t .tail) (t .head) (t .gap) (walk .depth) (kit .stays) (sizes .first) zero) where
-    begin : Begins b (counts b sizes kit t walk w .1) (kit .stays) (t .turns) (t .rows) (t .tags) (t .ends) (t .tail) (t .head) (t .gap) (sizes .first) first-latency (walk .depth) made
+  module _ (zero : List ℕ) (z : zero ≡ kit .earliest) (made : List ℕ × ℕ) (e : made ≡ begun (t .rows) (t .tags) (t .latencies) (t .tail) (t .head) (t .gap) (walk .depth) (kit .stays) (sizes .first) zero) where
+    begin : Begins b (counts b sizes kit t walk w .1) (kit .stays) (t .turns) (t .rows) (t .tags) (t .latencies) (t .tail) (t .head) (t .gap) (sizes .first) first-latency (walk .depth) made
     begin =
-        rw (e, z ∙ w .earliest) (begins b (counts b sizes kit t walk w .1) (kit .stays) (t .turns) (t .rows) (t .tags) (t .ends) (t .tail) (t .head) (t .gap) (sizes .first) first-latency (walk .depth) (w .stands .kept) (turn-stored b sizes kit t walk w))
+        rw (e, z ∙ w .earliest) (begins b (counts b sizes kit t walk w .1) (kit .stays) (t .turns) (t .rows) (t .tags) (t .latencies) (t .tail) (t .head) (t .gap) (sizes .first) first-latency (walk .depth) (w .stands .kept) (turn-stored b sizes kit t walk w))
 
     base : Base b qs (made .0)
     base = begin .base

@@ -33,9 +33,9 @@ use Rattle.node.proofs.BackLaws.{turns-more, turns-set}
 
 -- ---- the cases of the code
 
-module _ (rows : List (List ℕ)) (tags ends tail head gap stays : List ℕ) (latency₀ : ℕ) (first : List ℕ) where
+module _ (rows : List (List ℕ)) (tags latencies tail head gap stays : List ℕ) (latency₀ : ℕ) (first : List ℕ) where
   abbrev Begun : ℕ → List ℕ → ℕ → Type 0
-  Begun depth starts latency = _≡_ {A = List ℕ × ℕ} (starts, latency) (begun rows tags ends tail head gap depth stays latency₀ first)
+  Begun depth starts latency = _≡_ {A = List ℕ × ℕ} (starts, latency) (begun rows tags latencies tail head gap depth stays latency₀ first)
 
   pub begun-none : (depth : ℕ) → depth ≡ 0 → Begun depth first latency₀
   unfolding begun
@@ -52,7 +52,7 @@ module _ (rows : List (List ℕ)) (tags ends tail head gap stays : List ℕ) (la
     -- a row, raised by the last turn; the jobs, the larger sum and the latency are results of calls
     pub begun-raised : (depth : ℕ) → (depth ≡ 0 → ⊥) → last ≡ depth - 1 → tag ≡ last → (i j x most wide latency : ℕ) → i ≡ getD tail last 0 → j ≡ getD head last 0
         → most ≡ max (getD (getD rows (last % 32) []) j 0) x → x ≡ getD (getD rows (last % 32) []) i 0 + 1000 - getD gap last 0 → wide ≡ getD stays j 0
-        → latency ≡ max (getD ends (last % 32) 0) (most + wide) → Begun depth (set (getD rows (last % 32) []) j most) latency
+        → latency ≡ max (getD latencies (last % 32) 0) (most + wide) → Begun depth (set (getD rows (last % 32) []) j most) latency
     unfolding begun raisedRow raisedStart if_then_else_
     begun-raised zero more e h i j x most wide latency a b c s g l = absurd (more refl)
     begun-raised (suc d) more e h i j x most wide latency a b c s g l =
@@ -114,7 +114,7 @@ module _ (b : Batch) (few : b .n ≤ 24) where
           under = under-more (base .jobs) (base .long) (base .under);
         }
 
-  module _ (stays turns : List ℕ) (rows : List (List ℕ)) (tags ends tail head gap : List ℕ) (latency₀ : ℕ) (l : latency₀ ≡ latencyOf stays (earliestRead b) 24) where
+  module _ (stays turns : List ℕ) (rows : List (List ℕ)) (tags latencies tail head gap : List ℕ) (latency₀ : ℕ) (l : latency₀ ≡ latencyOf stays (earliestRead b) 24) where
     -- what a node begins with
     pub record Begins (depth : ℕ) (made : List ℕ × ℕ) : Type 0 where
       pub base : Base b (inequalities (clashes b) b (turnsIn turns depth)) (made .0)
@@ -127,9 +127,9 @@ module _ (b : Batch) (few : b .n ≤ 24) where
     abbrev pub lastOf : ℕ → Delay
     lastOf last = turned (clashes b) (turnOf (getD turns last 0))
 
-    begins-raised : (last : ℕ) → Base b (inequalities (clashes b) b (turnsIn turns last)) (getD rows (last % 32) []) → getD ends (last % 32) 0 ≡ latencyOf stays (getD rows (last % 32) []) 24
+    begins-raised : (last : ℕ) → Base b (inequalities (clashes b) b (turnsIn turns last)) (getD rows (last % 32) []) → getD latencies (last % 32) 0 ≡ latencyOf stays (getD rows (last % 32) []) 24
         → Fits (b .n) (lastOf last) → getD tail last 0 ≡ lastOf last .from → getD head last 0 ≡ lastOf last .to → getD gap last 0 ≡ coded (lastOf last .weight)
-        → Begins (suc last) (raisedRow (getD rows (last % 32) []) (getD ends (last % 32) 0) (getD tail last 0) (getD head last 0) (getD gap last 0) stays)
+        → Begins (suc last) (raisedRow (getD rows (last % 32) []) (getD latencies (last % 32) 0) (getD tail last 0) (getD head last 0) (getD gap last 0) stays)
     unfolding raisedRow raisedStart
     begins-raised last base g f p q r =
         rw (p, q, r)
@@ -144,15 +144,15 @@ module _ (b : Batch) (few : b .n ≤ 24) where
         long : length row ≡ 24
         long = ap length (base .padded) ∙ pad-length 24 0 (base .jobs) (omega (arith, base .long))
 
-    pub begins : (depth : ℕ) → Kept b stays turns depth rows tags ends
+    pub begins : (depth : ℕ) → Kept b stays turns depth rows tags latencies
         → ((last : ℕ) → last < depth → Fits (b .n) (lastOf last) × ((getD tail last 0 ≡ lastOf last .from) × ((getD head last 0 ≡ lastOf last .to) × (getD gap last 0 ≡ coded (lastOf last .weight)))))
-        → Begins depth (begun rows tags ends tail head gap depth stays latency₀ (earliestRead b))
+        → Begins depth (begun rows tags latencies tail head gap depth stays latency₀ (earliestRead b))
     unfolding begun if_then_else_
     begins zero k s = begins-none 0
     begins (suc last) k s = go (eqb (getD tags (last % 32) 0) last) refl
       where
         go : (p : Bool) → eqb (getD tags (last % 32) 0) last ≡ p
-            → Begins (suc last) (if p then raisedRow (getD rows (last % 32) []) (getD ends (last % 32) 0) (getD tail last 0) (getD head last 0) (getD gap last 0) stays else (earliestRead b, latency₀))
+            → Begins (suc last) (if p then raisedRow (getD rows (last % 32) []) (getD latencies (last % 32) 0) (getD tail last 0) (getD head last 0) (getD gap last 0) stays else (earliestRead b, latency₀))
         go true e =
             let tagged = eqb-true (getD tags (last % 32) 0) last e in
             let step = s last (omega arith) in
@@ -168,7 +168,7 @@ module _ (b : Batch) (stays : List ℕ) where
       record {
         long = length-replicate 32 (replicate {A = ℕ} 24 0);
         tagged = length-replicate {A = ℕ} 32 65535;
-        ended = length-replicate {A = ℕ} 32 0;
+        measured = length-replicate {A = ℕ} 32 0;
         small = record { starts = rows 32; latency = zeros-small 43016 32 };
         latency = λ d p e. absurd (omega (arith, tag d));
         under = λ d p e. absurd (omega (arith, tag d));
@@ -183,13 +183,13 @@ module _ (b : Batch) (stays : List ℕ) where
       rows (suc n) (suc k) = rows n k
 
   -- going back drops rows
-  pub kept-back : (turns turns′ : List ℕ) (depth left : ℕ) (rows : List (List ℕ)) (tags ends : List ℕ) → Kept b stays turns depth rows tags ends → Kin turns depth turns′ left → Kept b stays turns′ left rows tags ends
+  pub kept-back : (turns turns′ : List ℕ) (depth left : ℕ) (rows : List (List ℕ)) (tags latencies : List ℕ) → Kept b stays turns depth rows tags latencies → Kin turns depth turns′ left → Kept b stays turns′ left rows tags latencies
   unfolding turnsIn
-  kept-back turns turns′ depth left rows tags ends k i =
+  kept-back turns turns′ depth left rows tags latencies k i =
       record {
         long = k .long;
         tagged = k .tagged;
-        ended = k .ended;
+        measured = k .measured;
         small = k .small;
         latency = λ d h e. k .latency d (omega (arith, i .less)) e;
         under = λ d h e.
@@ -199,17 +199,17 @@ module _ (b : Batch) (stays : List ℕ) where
       }
 
   -- one turn more, and the row of the node that takes it
-  pub kept-more : (turns : List ℕ) (depth x : ℕ) (rows : List (List ℕ)) (tags ends starts : List ℕ) (last : ℕ) → Kept b stays turns depth rows tags ends
+  pub kept-more : (turns : List ℕ) (depth x : ℕ) (rows : List (List ℕ)) (tags latencies starts : List ℕ) (last : ℕ) → Kept b stays turns depth rows tags latencies
       → Small starts 43016 → last ≤ 43016 → last ≡ latencyOf stays starts 24 → Base b (inequalities (clashes b) b (turnsIn turns depth)) starts
-      → Kept b stays (set turns depth x) (depth + 1) (set rows (depth % 32) starts) (set tags (depth % 32) depth) (set ends (depth % 32) last)
-  kept-more turns depth x rows tags ends starts last k small most l base =
+      → Kept b stays (set turns depth x) (depth + 1) (set rows (depth % 32) starts) (set tags (depth % 32) depth) (set latencies (depth % 32) last)
+  kept-more turns depth x rows tags latencies starts last k small most l base =
       record {
         long = length-set rows _ starts ∙ k .long;
         tagged = length-set tags _ depth ∙ k .tagged;
-        ended = length-set ends _ last ∙ k .ended;
+        measured = length-set latencies _ last ∙ k .measured;
         small = record {
           starts = set-all (λ (r : List ℕ). Small r 43016) rows _ starts [] (k .small .starts) small;
-          latency = record { each = set-all (λ (y : ℕ). y ≤ 43016) ends _ last 0 (k .small .latency .each) most };
+          latency = record { each = set-all (λ (y : ℕ). y ≤ 43016) latencies _ last 0 (k .small .latency .each) most };
         };
         latency = λ d h e. late d h e (ℕ-discrete (d % 32) (depth % 32));
         under = λ d h e. low d h e (ℕ-discrete (d % 32) (depth % 32));
@@ -233,11 +233,11 @@ module _ (b : Batch) (stays : List ℕ) where
       tag d e p = sym (getD-set-other tags (depth % 32) (d % 32) depth 0 p) ∙ e
 
       late : (d : ℕ) → d < depth + 1 → getD (set tags (depth % 32) depth) (d % 32) 0 ≡ d → Dec (d % 32 ≡ depth % 32)
-          → getD (set ends (depth % 32) last) (d % 32) 0 ≡ latencyOf stays (getD (set rows (depth % 32) starts) (d % 32) []) 24
+          → getD (set latencies (depth % 32) last) (d % 32) 0 ≡ latencyOf stays (getD (set rows (depth % 32) starts) (d % 32) []) 24
       late d h e (yes p) =
-          rw (p, getD-set-same ends (depth % 32) last 0 (omega (arith, k .ended)), getD-set-same rows (depth % 32) starts [] (omega (arith, k .long))) l
+          rw (p, getD-set-same latencies (depth % 32) last 0 (omega (arith, k .measured)), getD-set-same rows (depth % 32) starts [] (omega (arith, k .long))) l
       late d h e (no p) =
-          rw (getD-set-other ends (depth % 32) (d % 32) last 0 p, getD-set-other rows (depth % 32) (d % 32) starts [] p) (k .latency d (above d h p) (tag d e p))
+          rw (getD-set-other latencies (depth % 32) (d % 32) last 0 p, getD-set-other rows (depth % 32) (d % 32) starts [] p) (k .latency d (above d h p) (tag d e p))
 
       low : (d : ℕ) → d < depth + 1 → getD (set tags (depth % 32) depth) (d % 32) 0 ≡ d → Dec (d % 32 ≡ depth % 32)
           → Base b (inequalities (clashes b) b (turnsIn (set turns depth x) d)) (getD (set rows (depth % 32) starts) (d % 32) [])

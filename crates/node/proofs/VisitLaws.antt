@@ -89,7 +89,7 @@ module _ (b : Batch) (sizes : Sizes) (kit : Kit) (t : Trail) (walk : Walk) (w : 
   -- ---- gone back
 
   pub stands-back : (best : Best) (starts turns′ tail′ head′ gap′ : List ℕ) (walk′ : Walk) → Returned (kit .codes) (t .turns) (walk .depth) best starts turns′ tail′ head′ gap′ walk′
-      → Stands b kit (record { turns = turns′; tail = tail′; head = head′; gap = gap′; rows = t .rows; tags = t .tags; ends = t .ends }) (walk′ .depth)
+      → Stands b kit (record { turns = turns′; tail = tail′; head = head′; gap = gap′; rows = t .rows; tags = t .tags; latencies = t .latencies }) (walk′ .depth)
   stands-back best starts turns′ tail′ head′ gap′ walk′ r =
       record { path = r .path; steps = r .steps; kept = kept-back b (kit .stays) (t .turns) turns′ (walk .depth) (walk′ .depth) _ _ _ (w .stands .kept) (r .kin) }
 
@@ -108,14 +108,14 @@ module _ (b : Batch) (sizes : Sizes) (kit : Kit) (t : Trail) (walk : Walk) (w : 
     base = record { jobs = ss; long = long; padded = l .padded; under = under-least (earliestStarts b) (latestStarts b) _ (inside-ends b _ (all-inside b (fits b (passes b sizes kit t walk w)) ts (good-named b ts (good-turns b sizes kit t walk w)))) ss (l .least) }
 
     -- their latency over the arrays
-    ends : last ≡ latencyOf (kit .stays) starts 24
-    ends =
+    exact : last ≡ latencyOf (kit .stays) starts 24
+    exact =
         l .told ∙ sym (latency-padded b (counts b sizes kit t walk w .1) ss long) ∙ ap (λ (p : List ℕ). latencyOf p (pad 24 0 ss) 24) (sym (w .each-stays))
         ∙ ap (λ (x : List ℕ). latencyOf (kit .stays) x 24) (sym (l .padded))
 
     small : Small starts 43016
     small =
-        below-small (kit .stays) starts last 43017 (ap length (l .padded) ∙ pad-length 24 0 ss (omega (arith, long, counts b sizes kit t walk w .1))) ends (omega (arith, l .small)) (omega arith)
+        below-small (kit .stays) starts last 43017 (ap length (l .padded) ∙ pad-length 24 0 ss (omega (arith, long, counts b sizes kit t walk w .1))) exact (omega (arith, l .small)) (omega arith)
 
     -- ss is not cut off at best
     decided : next (clashes b) b place ≡ branch b place ss (firstMet (clashes b) ss 0)
@@ -165,7 +165,7 @@ module _ (b : Batch) (sizes : Sizes) (kit : Kit) (t : Trail) (walk : Walk) (w : 
         -- the trail with the turn, its inequality and the node's row
         pub stands-more : (c x tag : ℕ) (tail′ head′ gap′ : List ℕ) → c ≡ k → x ≡ 2 * k → tag ≡ walk .depth
             → (tail′ ≡ set (t .tail) (walk .depth) (turnFrom (getD (kit .codes) c 0) x)) × ((head′ ≡ set (t .head) (walk .depth) (turnTo (getD (kit .codes) c 0) x)) × (gap′ ≡ set (t .gap) (walk .depth) (turnCode (getD (kit .codes) c 0) x)))
-            → Stands b kit (record { turns = set (t .turns) (walk .depth) x; tail = tail′; head = head′; gap = gap′; rows = set (t .rows) (walk .depth % 32) starts; tags = set (t .tags) (walk .depth % 32) tag; ends = set (t .ends) (walk .depth % 32) last }) (walk .depth + 1)
+            → Stands b kit (record { turns = set (t .turns) (walk .depth) x; tail = tail′; head = head′; gap = gap′; rows = set (t .rows) (walk .depth % 32) starts; tags = set (t .tags) (walk .depth % 32) tag; latencies = set (t .latencies) (walk .depth % 32) last }) (walk .depth + 1)
         stands-more c x tag tail′ head′ gap′ p q g e =
             record {
               path = path-set (t .turns) (walk .depth + 1) (walk .depth) x (w .stands .path) (met-room .1) refl (omega (arith, met-room .0));
@@ -173,5 +173,5 @@ module _ (b : Batch) (sizes : Sizes) (kit : Kit) (t : Trail) (walk : Walk) (w : 
                   steps-more (kit .codes) (set (t .turns) (walk .depth) x) (t .tail) (t .head) (t .gap) tail′ head′ gap′ (walk .depth) c x
                   (steps-less (kit .codes) (t .turns) (set (t .turns) (walk .depth) x) (t .tail) (t .head) (t .gap) (walk .depth) (walk .depth) (w .stands .steps) (omega arith) (λ i h. getD-set-other (t .turns) (walk .depth) i x 0 (λ z. omega arith)))
                   (met-room .1) (sym (getD-set-same (t .turns) (walk .depth) x 0 (omega (arith, w .stands .path .full, met-room .1)))) (omega arith) e;
-              kept = rw g (kept-more b (kit .stays) (t .turns) (walk .depth) x (t .rows) (t .tags) (t .ends) starts last (w .stands .kept) small (l .small) ends base);
+              kept = rw g (kept-more b (kit .stays) (t .turns) (walk .depth) x (t .rows) (t .tags) (t .latencies) starts last (w .stands .kept) small (l .small) exact base);
             }

@@ -44,13 +44,13 @@ pub record Trail : Type 0 where
   pub gap : List ℕ
   pub rows : List (List ℕ)
   pub tags : List ℕ
-  pub ends : List ℕ
+  pub latencies : List ℕ
 
 -- a trail of a batch's search at a depth
 pub record Stands (b : Batch) (kit : Kit) (t : Trail) (depth : ℕ) : Type 0 where
   pub path : Path (t .turns) depth
   pub steps : Steps (kit .codes) (t .turns) depth (t .tail) (t .head) (t .gap)
-  pub kept : Kept b (kit .stays) (t .turns) depth (t .rows) (t .tags) (t .ends)
+  pub kept : Kept b (kit .stays) (t .turns) depth (t .rows) (t .tags) (t .latencies)
 
 -- they hold the batch's delays, stays, ends and clashes, and a sound place
 pub record Works (b : Batch) (sizes : Sizes) (kit : Kit) (t : Trail) (walk : Walk) : Type 0 where

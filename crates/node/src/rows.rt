@@ -3,8 +3,8 @@
 // nothing else.
 use model::wide;
 use model::wide16;
-use times::ends::less;
 use times::latency::larger;
+use times::latency::minus;
 use times::latency::stay_wide;
 ghost use mathlib.Core.Path.{_≡_};
 ghost use Prim.Native.Nat.{_≤_};
@@ -17,7 +17,7 @@ ghost use Rattle.node.specs.Rows.{SmallRing, begun};
 pub fn begin(
     rows: &[[u16; 24]; 32],
     tags: &[u16; 32],
-    ends: &[u16; 32],
+    latencies: &[u16; 32],
     tail: &[u8; 1024],
     head: &[u8; 1024],
     gap: &[u16; 1024],
@@ -27,8 +27,8 @@ pub fn begin(
     starts: &mut [u16; 24],
 ) -> u16
     requires { ⌜ (depth ≤ 1024) × Placed (now tail) (now head) depth ⌝ }
-    requires { ⌜ Small (now stays) 16 × SmallRing (now rows) (now ends) ⌝ }
-    ensures { λ r. ⌜ (now (starts .exit), r) ≡ begun (now (rows .entry)) (now (tags .entry)) (now (ends .entry)) (now (tail .entry)) (now (head .entry)) (now (gap .entry)) depth (now (stays .entry)) first (now (starts .entry)) ⌝ }
+    requires { ⌜ Small (now stays) 16 × SmallRing (now rows) (now latencies) ⌝ }
+    ensures { λ r. ⌜ (now (starts .exit), r) ≡ begun (now (rows .entry)) (now (tags .entry)) (now (latencies .entry)) (now (tail .entry)) (now (head .entry)) (now (gap .entry)) depth (now (stays .entry)) first (now (starts .entry)) ⌝ }
 {
     if depth == 0 {
         return first;
@@ -41,9 +41,9 @@ pub fn begin(
     let i = wide(tail[last]);
     let j = wide(head[last]);
     let old = rows[place];
-    let start = larger(old[j], less(old[i] + 1000, gap[last]));
+    let start = larger(old[j], minus(old[i] + 1000, gap[last]));
     let mut new = old;
     new[j] = start;
     *starts = new;
-    larger(ends[place], start + stay_wide(stays[j]))
+    larger(latencies[place], start + stay_wide(stays[j]))
 }

@@ -61,13 +61,13 @@ fn reach(
     gap: &[u16; 1024],
     rows: &[[u16; 24]; 32],
     tags: &[u16; 32],
-    ends: &[u16; 32],
+    latencies: &[u16; 32],
     starts: &mut [u16; 24],
     latency: &mut u16,
 ) -> bool
-    requires { ⌜ Ready sizes (record { from = now from; to = now to; code = now code; stays = now stays; earliest = now earliest; latest = now latest; codes = now codes; pair = now pair; held = now held; end = now end }) (record { turns = now turns; tail = now tail; head = now head; gap = now gap; rows = now rows; tags = now tags; ends = now ends }) walk ⌝ }
+    requires { ⌜ Ready sizes (record { from = now from; to = now to; code = now code; stays = now stays; earliest = now earliest; latest = now latest; codes = now codes; pair = now pair; held = now held; end = now end }) (record { turns = now turns; tail = now tail; head = now head; gap = now gap; rows = now rows; tags = now tags; latencies = now latencies }) walk ⌝ }
     requires { ⌜ now starts ≡ now earliest ⌝ }
-    ensures { λ r. ⌜ Reaches sizes (record { from = now (from .entry); to = now (to .entry); code = now (code .entry); stays = now (stays .entry); earliest = now (earliest .entry); latest = now (latest .entry); codes = now (codes .entry); pair = now (pair .entry); held = now (held .entry); end = now (end .entry) }) (record { turns = now (turns .entry); tail = now (tail .entry); head = now (head .entry); gap = now (gap .entry); rows = now (rows .entry); tags = now (tags .entry); ends = now (ends .entry) }) walk r (now (starts .exit)) (now (latency .exit)) ⌝ }
+    ensures { λ r. ⌜ Reaches sizes (record { from = now (from .entry); to = now (to .entry); code = now (code .entry); stays = now (stays .entry); earliest = now (earliest .entry); latest = now (latest .entry); codes = now (codes .entry); pair = now (pair .entry); held = now (held .entry); end = now (end .entry) }) (record { turns = now (turns .entry); tail = now (tail .entry); head = now (head .entry); gap = now (gap .entry); rows = now (rows .entry); tags = now (tags .entry); latencies = now (latencies .entry) }) walk r (now (starts .exit)) (now (latency .exit)) ⌝ }
 {
     let depth = walk.depth;
     let best = walk.best;
@@ -75,7 +75,7 @@ fn reach(
     let first = begin(
         rows,
         tags,
-        ends,
+        latencies,
         tail,
         head,
         gap,
@@ -162,10 +162,10 @@ pub fn visit(
     gap: &mut [u16; 1024],
     rows: &mut [[u16; 24]; 32],
     tags: &mut [u16; 32],
-    ends: &mut [u16; 32],
+    latencies: &mut [u16; 32],
 ) -> Walk
-    requires { ⌜ Ready sizes (record { from = now from; to = now to; code = now code; stays = now stays; earliest = now earliest; latest = now latest; codes = now codes; pair = now pair; held = now held; end = now end }) (record { turns = now turns; tail = now tail; head = now head; gap = now gap; rows = now rows; tags = now tags; ends = now ends }) walk ⌝ }
-    ensures { λ r. ⌜ Visited sizes (record { from = now (from .entry); to = now (to .entry); code = now (code .entry); stays = now (stays .entry); earliest = now (earliest .entry); latest = now (latest .entry); codes = now (codes .entry); pair = now (pair .entry); held = now (held .entry); end = now (end .entry) }) (record { turns = now (turns .entry); tail = now (tail .entry); head = now (head .entry); gap = now (gap .entry); rows = now (rows .entry); tags = now (tags .entry); ends = now (ends .entry) }) walk (record { turns = now (turns .exit); tail = now (tail .exit); head = now (head .exit); gap = now (gap .exit); rows = now (rows .exit); tags = now (tags .exit); ends = now (ends .exit) }) r ⌝ }
+    requires { ⌜ Ready sizes (record { from = now from; to = now to; code = now code; stays = now stays; earliest = now earliest; latest = now latest; codes = now codes; pair = now pair; held = now held; end = now end }) (record { turns = now turns; tail = now tail; head = now head; gap = now gap; rows = now rows; tags = now tags; latencies = now latencies }) walk ⌝ }
+    ensures { λ r. ⌜ Visited sizes (record { from = now (from .entry); to = now (to .entry); code = now (code .entry); stays = now (stays .entry); earliest = now (earliest .entry); latest = now (latest .entry); codes = now (codes .entry); pair = now (pair .entry); held = now (held .entry); end = now (end .entry) }) (record { turns = now (turns .entry); tail = now (tail .entry); head = now (head .entry); gap = now (gap .entry); rows = now (rows .entry); tags = now (tags .entry); latencies = now (latencies .entry) }) walk (record { turns = now (turns .exit); tail = now (tail .exit); head = now (head .exit); gap = now (gap .exit); rows = now (rows .exit); tags = now (tags .exit); latencies = now (latencies .exit) }) r ⌝ }
 {
     let depth = walk.depth;
     let best = walk.best;
@@ -191,7 +191,7 @@ pub fn visit(
         gap,
         rows,
         tags,
-        ends,
+        latencies,
         &mut starts,
         &mut latency,
     ) {
@@ -218,7 +218,7 @@ pub fn visit(
     let place = depth % 32;
     rows[place] = starts;
     tags[place] = depth as u16;
-    ends[place] = latency;
+    latencies[place] = latency;
     Walk {
         depth: depth + 1,
         best: best,

@@ -112,7 +112,7 @@ q4 =
 -- ---- pinned
 
 module _ (q : Q4) where
-  -- every file without a header of edition 02 gives what document 01 says, and one with it what 01 does not
+  -- every file without a header of edition 02 gives what 01 says, and one with it what 01 does not
   pub every-first : (file : List ℕ) → ¬ Begins 2 file → opened file ≡ openedAs (openFile01 file)
   every-first file = q .first file (opened file) refl
 

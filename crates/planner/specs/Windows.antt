@@ -1,6 +1,6 @@
 -- Request Q-4 of document 02, as statements about what the calls return; proofs/Windows proves them. As in Demands, every hypothesis of the form o ≡ opened file or
--- (r, list′) ≡ ran s budget list is word for word what the contract of that call says of its result. What edition 01 means is said by model/specs/First, which has
--- document 01 alone.
+-- (r, list′) ≡ ran s budget list is word for word what the contract of that call says of its result. What edition 01 meant before this
+-- request is said by model/specs/First; "01" is here what that says.
 use Prim.Native.Nat.{ℕ, _≤_, _<_}
 use mathlib.Core.Path.{_≡_}
 use mathlib.Core.Logic.{_↔_, _≢_}
@@ -54,12 +54,12 @@ pub record Numbers (file : List ℕ) (o : Opened) : Type 0 where
   pub twenty : openTold (o .answer) ≡ refuse 20 → Begins 2 file
 
 pub record Q4 : Type 0 where
-  -- a file that does not begin with a header of edition 02 opens, or is refused, exactly as document 01 says
+  -- a file that does not begin with a header of edition 02 opens, or is refused, exactly as 01 says
   pub first : (file : List ℕ) (o : Opened) → o ≡ opened file → ¬ Begins 2 file → o ≡ openedAs (openFile01 file)
-  -- and its search is one of document 01, after every list of runs
+  -- and its search is one of 01, after every list of runs
   pub runs-first :
       (file : List ℕ) (o : Opened) → o ≡ opened file → (b : Batch) → BatchFile file b → b .edition ≡ 1 → (cs : List Call) (s : Search) → Called (o .search) cs s → First b s
-  -- a run that is not refused goes on from any sound record of edition 01 by document 01's nodes
+  -- a run that is not refused goes on from any sound record of edition 01 by 01's nodes
   pub nodes-first :
       (s : Search) → sound s ≡ true → s .batch .edition ≡ 1 → (budget : ℕ) (list : List ℕ) → runRefusal s budget (length list) ≡ accept tt
       → (r : Ran) (list′ : List ℕ) → (r, list′) ≡ ran s budget list → r .search ≡ nodes01 budget s

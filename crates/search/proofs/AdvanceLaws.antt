@@ -105,7 +105,7 @@ module _ (s : Search) (x : Examined) (e : sound s ≡ true) (o : s .ended ≡ fa
       → code ≡ heaviestOf (sizes .delays) (x .delays .from) (x .delays .to) (x .delays .code)
       → paired ≤ x .clashes .count → Paired (x .clashes .codes) pair held end (sizes .pairs) paired → Steps (x .clashes .codes) (x .turns) (x .depth) tail head gap
       → Works (s .batch) sizes (record { from = x .delays .from; to = x .delays .to; code = code; stays = x .stays; earliest = x .earliest; latest = x .latest; codes = x .clashes .codes; pair = pair; held = held; end = end })
-      (record { turns = x .turns; tail = tail; head = head; gap = gap; rows = replicate 32 (replicate 24 0); tags = replicate 32 65535; ends = replicate 32 0 }) first
+      (record { turns = x .turns; tail = tail; head = head; gap = gap; rows = replicate 32 (replicate 24 0); tags = replicate 32 65535; latencies = replicate 32 0 }) first
   first-works sizes code pair held end tail head gap paired a c d h k q r g =
       record {
         jobs = a;

@@ -55,11 +55,11 @@ pub fn visit_nodes(
     gap: &mut [u16; 1024],
     rows: &mut [[u16; 24]; 32],
     tags: &mut [u16; 32],
-    ends: &mut [u16; 32],
+    latencies: &mut [u16; 32],
 ) -> Walked
     requires { ⌜ budget .total + budget .left ≤ 100000000 ⌝ }
-    requires { ⌜ Ready sizes (record { from = now from; to = now to; code = now code; stays = now stays; earliest = now earliest; latest = now latest; codes = now codes; pair = now pair; held = now held; end = now end }) (record { turns = now turns; tail = now tail; head = now head; gap = now gap; rows = now rows; tags = now tags; ends = now ends }) start ⌝ }
-    ensures { λ r. ⌜ Walks sizes (record { from = now (from .entry); to = now (to .entry); code = now (code .entry); stays = now (stays .entry); earliest = now (earliest .entry); latest = now (latest .entry); codes = now (codes .entry); pair = now (pair .entry); held = now (held .entry); end = now (end .entry) }) (record { turns = now (turns .entry); tail = now (tail .entry); head = now (head .entry); gap = now (gap .entry); rows = now (rows .entry); tags = now (tags .entry); ends = now (ends .entry) }) start budget (now (turns .exit)) r ⌝ }
+    requires { ⌜ Ready sizes (record { from = now from; to = now to; code = now code; stays = now stays; earliest = now earliest; latest = now latest; codes = now codes; pair = now pair; held = now held; end = now end }) (record { turns = now turns; tail = now tail; head = now head; gap = now gap; rows = now rows; tags = now tags; latencies = now latencies }) start ⌝ }
+    ensures { λ r. ⌜ Walks sizes (record { from = now (from .entry); to = now (to .entry); code = now (code .entry); stays = now (stays .entry); earliest = now (earliest .entry); latest = now (latest .entry); codes = now (codes .entry); pair = now (pair .entry); held = now (held .entry); end = now (end .entry) }) (record { turns = now (turns .entry); tail = now (tail .entry); head = now (head .entry); gap = now (gap .entry); rows = now (rows .entry); tags = now (tags .entry); latencies = now (latencies .entry) }) start budget (now (turns .exit)) r ⌝ }
 {
     let mut walk = start;
     let mut tally = budget;
@@ -87,7 +87,7 @@ pub fn visit_nodes(
             gap,
             rows,
             tags,
-            ends,
+            latencies,
         );
     }
     Walked { walk, tally }

@@ -115,7 +115,7 @@ fn advance(search: Search, examined: Examined, budget: u32) -> Search
     store_turns(&mut tail, &mut head, &mut gap, &codes, &turns, depth);
     let mut rows = [[0u16; 24]; 32];
     let mut tags = [65535u16; 32];
-    let mut ends = [0u16; 32];
+    let mut latencies = [0u16; 32];
     let sizes = Sizes {
         jobs: wide(batch.n),
         delays: m,
@@ -153,7 +153,7 @@ fn advance(search: Search, examined: Examined, budget: u32) -> Search
         &mut gap,
         &mut rows,
         &mut tags,
-        &mut ends,
+        &mut latencies,
     );
     rebuilt(batch, &turns, walked)
 }

@@ -2,8 +2,8 @@
 // much as it takes for the compiler to work on whole rows, and rows past n are empty, so they change nothing. The latency goes along: each round
 // raises it by the new starts, and where it is at or above a bound, the rounds end.
 use times::ends::in_time;
-use times::ends::less;
 use times::latency::larger;
+use times::latency::minus;
 use times::latency::raised_latency;
 ghost use mathlib.Core.Path.{_≡_};
 ghost use Prim.Native.Nat.{_*_, _≤_, _<_};
@@ -31,7 +31,7 @@ fn sum(table: &[[u16; 24]; 24], high: &[u16; 24], i: usize, j: usize) -> u16
     requires { ⌜ (i < 24) × (j < 24) ⌝ }
     ensures { λ r. ⌜ r ≡ sumAt (now (table .entry)) (now (high .entry)) j i ⌝ }
 {
-    less(high[i], table[i][j])
+    minus(high[i], table[i][j])
 }
 
 // Rows i to i + 3: each place keeps the largest of what it has and the sums of these rows.

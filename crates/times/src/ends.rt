@@ -2,7 +2,7 @@
 use model::Batch;
 use model::wide;
 ghost use mathlib.Core.Path.{_≡_};
-ghost use Prim.Native.Nat.{_-_, _≤_};
+ghost use Prim.Native.Nat.{_≤_};
 ghost use Rattle.times.specs.Ends.{earliestRead, latestRead, noneLate};
 
 // Those of the first n jobs, and 0 in the places past them.
@@ -27,16 +27,6 @@ pub fn ends_of(batch: Batch) -> Ends
         i = i + 1;
     }
     Ends { earliest, latest }
-}
-
-// The difference, 0 at least.
-pub fn less(a: u16, b: u16) -> u16
-    ensures { λ r. ⌜ r ≡ a - b ⌝ }
-{
-    if a < b {
-        return 0;
-    }
-    a - b
 }
 
 // Whether no start passes its latest. The loop does not stop at the first that does: without a way out it is compiled to whole vectors.

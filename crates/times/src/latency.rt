@@ -1,7 +1,7 @@
 // The latency of starts, the largest sum of a start and a stay, as a value that starts raise. Past n both arrays hold 0, so that all 24 places may be taken: a
 // loop of known length is one that the compiler takes a whole row at a time.
 ghost use mathlib.Core.Path.{_≡_};
-ghost use Prim.Native.Nat.{max};
+ghost use Prim.Native.Nat.{_-_, max};
 ghost use Rattle.times.specs.Fill.{Small};
 ghost use Rattle.times.specs.Latency.{raisedBy};
 
@@ -12,6 +12,16 @@ pub fn larger(a: u16, b: u16) -> u16
         return b;
     }
     a
+}
+
+// The difference, or 0 where that is below 0.
+pub fn minus(a: u16, b: u16) -> u16
+    ensures { λ r. ⌜ r ≡ a - b ⌝ }
+{
+    if a < b {
+        return 0;
+    }
+    a - b
 }
 
 pub fn stay_wide(x: u8) -> u16

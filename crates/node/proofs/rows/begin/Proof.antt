@@ -47,7 +47,7 @@ begin-spec =
       arith,
       c .stay-wide .ensures,
       c .before .before .before .larger .ensures,
-      c .before .before .before .before .less .ensures,
+      c .before .before .before .before .minus .ensures,
       a .pre .1 .0 .each (c .before .before .before .before .before .before .before .wide2 .result),
       row .each (c .before .before .before .before .before .before .before .wide2 .result),
       row .each (c .before .before .before .before .before .before .before .before .before .wide .result),
@@ -56,4 +56,4 @@ begin-spec =
     -- the row, raised
     (λ c.
     let tagged = c .before .before .before .before .before .before .before .before .before .before .before .before in
-    begun-raised _ _ _ _ _ _ _ _ _ _ _ (tagged .before .wide16 .ensures .0) _ (tagged .before .before .before .if1 .left) refl (tagged .if2 .left) _ _ _ _ _ _ (c .before .before .before .before .before .before .before .before .before .before .wide .ensures .0) (c .before .before .before .before .before .before .before .before .wide2 .ensures .0) (c .before .before .before .before .larger .ensures) (c .before .before .before .before .before .less .ensures) (c .before .stay-wide .ensures) (c .larger2 .ensures)))
+    begun-raised _ _ _ _ _ _ _ _ _ _ _ (tagged .before .wide16 .ensures .0) _ (tagged .before .before .before .if1 .left) refl (tagged .if2 .left) _ _ _ _ _ _ (c .before .before .before .before .before .before .before .before .before .before .wide .ensures .0) (c .before .before .before .before .before .before .before .before .wide2 .ensures .0) (c .before .before .before .before .larger .ensures) (c .before .before .before .before .before .minus .ensures) (c .before .stay-wide .ensures) (c .larger2 .ensures)))

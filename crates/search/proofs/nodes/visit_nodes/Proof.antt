@@ -7,13 +7,13 @@ use Rattle.search.proofs.nodes.visit_nodes.Statement.{statement}
 use Rattle.search.proofs.nodes.visit_nodes.Tie as tie
 
 abbrev Inv-loop : tie.InvT-loop
-Inv-loop sizes from to code stays earliest latest codes pair held end turns₀ tail₀ head₀ gap₀ rows₀ tags₀ ends₀ walk₀ tally₀ turns tail head gap rows tags ends walk tally =
+Inv-loop sizes from to code stays earliest latest codes pair held end turns₀ tail₀ head₀ gap₀ rows₀ tags₀ latencies₀ walk₀ tally₀ turns tail head gap rows tags latencies walk tally =
     Going sizes (record { from = from; to = to; code = code; stays = stays; earliest = earliest; latest = latest; codes = codes; pair = pair; held = held; end = end })
-    (record { turns = turns₀; tail = tail₀; head = head₀; gap = gap₀; rows = rows₀; tags = tags₀; ends = ends₀ }) walk₀ tally₀
-    (record { turns = turns; tail = tail; head = head; gap = gap; rows = rows; tags = tags; ends = ends }) walk tally
+    (record { turns = turns₀; tail = tail₀; head = head₀; gap = gap₀; rows = rows₀; tags = tags₀; latencies = latencies₀ }) walk₀ tally₀
+    (record { turns = turns; tail = tail; head = head; gap = gap; rows = rows; tags = tags; latencies = latencies }) walk tally
 
 abbrev μ-loop : tie.MeasureT-loop
-μ-loop sizes from to code stays earliest latest codes pair held end turns₀ tail₀ head₀ gap₀ rows₀ tags₀ ends₀ walk₀ tally₀ turns tail head gap rows tags ends walk tally = tally .left
+μ-loop sizes from to code stays earliest latest codes pair held end turns₀ tail₀ head₀ gap₀ rows₀ tags₀ latencies₀ walk₀ tally₀ turns tail head gap rows tags latencies walk tally = tally .left
 
 pub visit-nodes-spec : {M : Type 1} → statement M
 visit-nodes-spec =

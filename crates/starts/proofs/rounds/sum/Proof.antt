@@ -16,4 +16,4 @@ sum-spec =
     (λ c. search needs)
     (λ c. search needs)
     (λ c κs. search needs)
-    (λ c. c .less .ensures))
+    (λ c. c .minus .ensures))
