@@ -1,5 +1,5 @@
 -- What the demands are made of is pinned: two results that meet one of these statements for the same inputs are equal, as far as it speaks of them, and what a
--- statement says beside its result is read out of it once. Where one is written weaker, its law here fails. planner/proofs/Pins does the same for the demands.
+-- statement says beside its result is read out of it once. Where one is written weaker, its law here fails. promises/proofs/Pins does the same for the demands.
 use Prim.Native.Nat.{ℕ, _≤_, _<_, min}
 use mathlib.Core.Path.{_≡_, refl, ap, sym, _∙_}
 use mathlib.Core.List.{List, _++_}

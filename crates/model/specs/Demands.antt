@@ -1,5 +1,5 @@
 -- What the demands are made of: what each call leaves, a valid plan with its latency, and what holds after a list of calls, as facts about what calls
--- returned. model/proofs/PinLaws shows for each that no two results meet it. The demands themselves are planner/specs/Demands.
+-- returned. model/proofs/PinLaws shows for each that no two results meet it. The demands themselves are promises/specs/Demands.
 use Prim.Native.Nat.{ℕ, _≤_, _<_, min}
 use mathlib.Core.Path.{_≡_}
 use mathlib.Core.Logic.{_↔_}

@@ -29,9 +29,9 @@ use Rattle.model.proofs.OutcomeLaws.{refused, accept-eq}
 use Rattle.model.proofs.OpenLaws.{open-format, opens, yields}
 use Rattle.model.proofs.ClaimLaws.{claim-iff}
 use Rattle.model.proofs.JudgeLaws.{jobs-iff, plan-iff, judge-refused, judge-form, judge-jobs, judge-plan, judge-passes, judge-right, plan-right}
-use Rattle.planner.specs.Judging.{Judging, Q1}
-use Rattle.planner.proofs.Demands.{called-after, writing, demands}
-use Rattle.planner.proofs.Pins.{called-there, every-plan-told}
+use Rattle.promises.specs.Judging.{Judging, Q1}
+use Rattle.promises.proofs.Demands.{called-after, writing, demands}
+use Rattle.promises.proofs.Pins.{called-there, every-plan-told}
 
 -- the answer tells what the definition gives
 told : (o : Outcome (Unit {0})) → judgeTold (judgedAs o) ≡ o

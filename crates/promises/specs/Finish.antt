@@ -21,7 +21,7 @@ use Rattle.model.specs.Text.{planText, written}
 use Rattle.model.specs.Answers.{plan, runTold, openTold, bestTold}
 use Rattle.model.specs.Calls.{Call}
 use Rattle.model.specs.Judge.{judged}
-use Rattle.planner.specs.Demands.{Called}
+use Rattle.promises.specs.Demands.{Called}
 
 -- a file in form, of a batch within the limits: nothing but 9 and 10 can refuse it
 pub record FileOf (file : List ℕ) (b : Batch) : Type 0 where

@@ -24,8 +24,8 @@ use Rattle.model.specs.Answers.{plan, runTold, openTold, writeTold, bestTold}
 use Rattle.model.specs.Calls.{Call, call, after, refuses, granted}
 use Rattle.model.specs.Demands.{OpeningLeaves, RunLeaves, WritingLeaves, PlanWith}
 use Rattle.model.proofs.PinLaws.{run-one, reached-pinned, answer-pinned}
-use Rattle.planner.specs.Demands.{Called, none, more, Demand2, LastCall, AfterList, Demand3, Demands}
-use Rattle.planner.proofs.Demands.{called-after}
+use Rattle.promises.specs.Demands.{Called, none, more, Demand2, LastCall, AfterList, Demand3, Demands}
+use Rattle.promises.proofs.Demands.{called-after}
 
 -- every list of calls has a record after it
 pub called-there : (s : Search) (cs : List Call) → Called s cs (after s cs)

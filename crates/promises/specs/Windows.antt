@@ -24,8 +24,8 @@ use Rattle.model.specs.Sound.{sound}
 use Rattle.model.specs.Run.{runRefusal, ran}
 use Rattle.model.specs.Answers.{plan, noPlan, runTold, openTold, bestTold}
 use Rattle.model.specs.Calls.{Call}
-use Rattle.planner.specs.Demands.{Called}
-use Rattle.planner.specs.Finish.{FileOf}
+use Rattle.promises.specs.Demands.{Called}
+use Rattle.promises.specs.Finish.{FileOf}
 
 -- s is the record after a list of runs on what opening gave for a file of edition 01
 pub record First (b : Batch) (s : Search) : Type 0 where

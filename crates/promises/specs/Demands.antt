@@ -1,5 +1,5 @@
 -- The three demands, as statements about what the calls return; proofs/Demands proves them. Every hypothesis of the form r ≡ opened file, (r, list′) ≡ ran s budget list or
--- (w, buffer′) ≡ written text buffer is word for word what the contract of that call says of its result and of the caller's memory.
+-- (w, buffer′) ≡ written text buffer is word for word what the contract of that call (planner/src/lib.rt) says of its result and of the caller's memory.
 use Prim.Native.Nat.{ℕ, _≤_}
 use mathlib.Core.Path.{_≡_}
 use mathlib.Core.Logic.{_↔_}

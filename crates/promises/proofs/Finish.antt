@@ -34,10 +34,10 @@ use Rattle.model.proofs.SoundLaws.{passes-sound}
 use Rattle.model.proofs.OpenLaws.{file-passes, opens, yields}
 use Rattle.model.proofs.PaddedLaws.{padded-opened, padded-judged, padded-text, padded-call, padded-after}
 use Rattle.model.proofs.PaddingLaws.{every-padding}
-use Rattle.planner.specs.Demands.{Called}
-use Rattle.planner.specs.Finish.{FileOf, PaddedFiles, Q3}
-use Rattle.planner.proofs.Demands.{called-after, demands}
-use Rattle.planner.proofs.Pins.{called-there}
+use Rattle.promises.specs.Demands.{Called}
+use Rattle.promises.specs.Finish.{FileOf, PaddedFiles, Q3}
+use Rattle.promises.proofs.Demands.{called-after, demands}
+use Rattle.promises.proofs.Pins.{called-there}
 
 -- a plan with its latency is over in it, and not before
 plan-over : (file : List ℕ) (b : Batch) → BatchFile file b → (list : List ℕ) (l : ℕ) → PlanWith b list l → FirstOver b (take (b .n) list) l

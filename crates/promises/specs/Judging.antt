@@ -18,7 +18,7 @@ use Rattle.model.specs.Text.{planText, written}
 use Rattle.model.specs.Answers.{openTold, writeTold, judgeTold, bestTold}
 use Rattle.model.specs.Calls.{Call}
 use Rattle.model.specs.Judge.{RightText, Claim, Claims, RightJobs, RightPlan, judged}
-use Rattle.planner.specs.Demands.{Called}
+use Rattle.promises.specs.Demands.{Called}
 
 -- j is the answer for a file, which opening answered with o, and a text
 pub record Judging (file : List ℕ) (o : Opened) (text : List ℕ) (j : Judgement) : Type 0 where

@@ -30,11 +30,11 @@ use Rattle.model.specs.Demands.{PlanWith}
 use Rattle.model.proofs.OutcomeLaws.{refuse-as, refused}
 use Rattle.model.proofs.OpenLaws.{open-format, refused-10, best-plans, best-limits, after-batch, yields}
 use Rattle.model.proofs.FirstLaws.{ends01, open-first, open-second, open-3, refused-8, refused-20, search01, plan01, no-plan01}
-use Rattle.planner.specs.Demands.{Called}
-use Rattle.planner.specs.Windows.{First, InEnds, Numbers, Q4}
-use Rattle.planner.proofs.Demands.{called-after, demands}
-use Rattle.planner.proofs.Pins.{called-there}
-use Rattle.planner.proofs.Finish.{form-iff}
+use Rattle.promises.specs.Demands.{Called}
+use Rattle.promises.specs.Windows.{First, InEnds, Numbers, Q4}
+use Rattle.promises.proofs.Demands.{called-after, demands}
+use Rattle.promises.proofs.Pins.{called-there}
+use Rattle.promises.proofs.Finish.{form-iff}
 
 -- what opening refuses with is what it tells
 told-refused : (o : Outcome Batch) (k : ℕ) → (openTold (openedAs o .answer) ≡ refuse k) ↔ (o ≡ refuse k)

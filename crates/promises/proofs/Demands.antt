@@ -22,7 +22,7 @@ use Rattle.model.specs.Demands.{OpeningLeaves, RunLeaves, WritingLeaves, PlanWi
 use Rattle.model.proofs.EndLaws.{ends-unique}
 use Rattle.model.proofs.LeaveLaws.{opening-leaves, running-leaves, writing-leaves}
 use Rattle.model.proofs.OpenLaws.{after-append, N, file-end, after-reached, after-refused, after-answered, written-back, best-plans, answer-plans, text-plans, opens, yields}
-use Rattle.planner.specs.Demands.{Called, none, more, Demand1, Demand2, LastCall, Demand3, Demands}
+use Rattle.promises.specs.Demands.{Called, none, more, Demand1, Demand2, LastCall, Demand3, Demands}
 
 -- the record after the calls is the definitions' one
 pub called-after : {s t : Search} {cs : List Call} → Called s cs t → t ≡ after s cs
