@@ -145,16 +145,12 @@ module _ (q : Q4) where
       pub every-end : (i : ℕ) → (lined (s .batch) i ≡ false) × (earliest (s .batch) i ≡ 0) × (latest (s .batch) i ≡ 65535)
       every-end i = here .ends i
 
-      pub every-plan01 : (c : Call) (l t : ℕ) → runTold (call s c .0 .answer) ≡ accept (plan l t) → (us : List ℕ) → Valid01 b us → l ≤ latency b us
+      pub every-plan01 : (c : Call) (l t : ℕ) → runTold (call s c .0 .answer) ≡ accept (plan l t) → let ts = take (b .n) (call s c .1) in Shortest01 b ts × (latency b ts ≡ l)
       unfolding call
-      every-plan01 c l t e us v =
-          let x = ran s (c .budget) (c .starts) in
-          let r = here .plans c (x .0) (x .1) refl l t e in
-          omega (arith, r .0 .least us v, r .1)
+      every-plan01 c l t e = let x = ran s (c .budget) (c .starts) in here .plans c (x .0) (x .1) refl l t e
 
-      pub every-plan01-valid : (c : Call) (l t : ℕ) → runTold (call s c .0 .answer) ≡ accept (plan l t) → Valid01 b (take (b .n) (call s c .1))
-      unfolding call
-      every-plan01-valid c l t e = let x = ran s (c .budget) (c .starts) in here .plans c (x .0) (x .1) refl l t e .0 .valid
+      pub every-plan01-least : (c : Call) (l t : ℕ) → runTold (call s c .0 .answer) ≡ accept (plan l t) → (us : List ℕ) → Valid01 b us → l ≤ latency b us
+      every-plan01-least c l t e us v = let r = every-plan01 c l t e in omega (arith, r .0 .least us v, r .1)
 
       pub every-none01 : (c : Call) (t : ℕ) → runTold (call s c .0 .answer) ≡ accept (noPlan t) → (ts : List ℕ) → ¬ Valid01 b ts
       unfolding call
