@@ -41,6 +41,7 @@ static const char *const words[] = {
     "the plan text's n is not the batch's, or its job lines are not jobs 0 to n - 1 in order",
     "the plan is not valid, or its latency is wrong",
     "a window's job is of n or above or not above the window's before, or its earliest start is above 20,000 or above its latest",
+    "a rest's station is above 15 or not above the rest's before, or its ticks are outside 1 to 7",
 };
 
 static double now(void) {

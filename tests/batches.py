@@ -1,7 +1,8 @@
 """Random batches, running a program, calls and their answers, and the words of a test's command line.
 
-A batch is (jobs, delays) in edition 01 and (jobs, delays, windows) in edition 02: jobs are lists of masks, windows have
-the earliest and the latest start of each job that has a line for them."""
+A batch is (jobs, delays) in edition 01 and (jobs, delays, windows) or (jobs, delays, windows, rests) in edition 02: jobs
+are lists of masks, windows have the earliest and the latest start of each job that has a line for them, rests the ticks of
+each station that has one."""
 import os
 import subprocess
 import sys
@@ -105,16 +106,37 @@ def windowed(rng, made):
     return made + (windows_for(rng, *made),)
 
 
-def lines(jobs, delays, windows=None):
+def rests_for(rng, jobs):
+    """Rests for some stations, or for many; most are stations that jobs hold, and most are short, so that not too many
+    batches have too many clashes."""
+    held = [station for station in range(16) if any(mask >> station & 1 for masks in jobs for mask in masks)]
+    chosen = rng.sample(held, min(len(held), rng.choice([0, 1, 1, 1, 2, 3, 16])))
+    others = rng.sample(range(16), rng.choice([0, 0, 1, 3]))
+    ticks = rng.choice([[1], [1, 2], [1, 2], [1, 2, 3], [2, 5], [7], range(1, 8)])
+    return {station: rng.choice(ticks) for station in chosen + others}
+
+
+def rested(rng, made):
+    """A batch of either edition as one of edition 02 with rests."""
+    jobs, delays, *windows = made
+    return jobs, delays, windows[0] if windows else {}, rests_for(rng, jobs)
+
+
+def lines(jobs, delays, windows=None, rests=None):
     """The lines of the batch file, without their 0A."""
     head = "A0%02X%02X%02X" % (1 if windows is None else 2, len(jobs), len(delays))
     tables = ["A1%02X" % len(masks) + "".join("%04X" % mask for mask in masks) for masks in jobs]
     kept = ["A2%02X%02X%04X" % (i, j, w & 0xFFFF) for i, j, w in delays]
-    return [head] + tables + kept + [window_line(job, *ends) for job, ends in sorted((windows or {}).items())]
+    further = [window_line(job, *ends) for job, ends in sorted((windows or {}).items())]
+    return [head] + tables + kept + further + [rest_line(*one) for one in sorted((rests or {}).items())]
 
 
 def window_line(job, earliest, latest):
     return "A3%02X%04X%04X" % (job, earliest, latest)
+
+
+def rest_line(station, ticks):
+    return "A4%02X%02X" % (station, ticks)
 
 
 def joined(texts):
@@ -126,10 +148,17 @@ def stay(masks):
     return max((a + 1 for a, mask in enumerate(masks) if mask), default=0)
 
 
-def apart(first, second):
-    """The differences t_j - t_i at which two jobs hold one station in one tick."""
-    return {a - b for a, x in enumerate(first) for b, y in enumerate(second) if x & y}
+def apart(first, second, rests=None):
+    """The differences t_j - t_i at which two jobs hold one station in one tick, or in ticks no further apart than its rest."""
+    met = {(a - b, x & y) for a, x in enumerate(first) for b, y in enumerate(second) if x & y}
+    if not rests:
+        return {middle for middle, _ in met}
+    found = set()
+    for middle, shared in met:
+        most = max(rests.get(station, 0) for station in range(16) if shared >> station & 1)
+        found.update(range(middle - most, middle + most + 1))
+    return found
 
 
-def clash_count(jobs):
-    return sum(len(apart(jobs[i], jobs[j])) for j in range(len(jobs)) for i in range(j))
+def clash_count(jobs, rests=None):
+    return sum(len(apart(jobs[i], jobs[j], rests)) for j in range(len(jobs)) for i in range(j))

@@ -6,24 +6,27 @@ from collections import Counter, namedtuple
 from concurrent.futures import ThreadPoolExecutor
 
 from batches import answers, clash_count, ending_soon, joined, lines, opening, output, words_of
-from files import all_files, past_the_cut, some_batch, some_windowed
-from lists import TEXTS, all_lists, all_lists_02
+from files import all_files, past_the_cut, some_batch, some_rested, some_windowed
+from lists import TEXTS, all_lists, all_lists_02, all_lists_rests
+from plans import read_file
 from tally import Tally
 
 Known = namedtuple("Known", "data n m clashes total plan")
-DUE = ["O %d" % k for k in list(range(11)) + [20]] + ["R S", "R P", "R N", "R F 11", "R F 12", "R F 13", "R F 14", "P W", "P F 12",
+DUE = ["O %d" % k for k in list(range(11)) + [20, 21]] + ["R S", "R P", "R N", "R F 11", "R F 12", "R F 13", "R F 14", "P W", "P F 12",
                                          "P F 15", "P F 16", "B W", "B F 12", "B F 16", "D", "S"]
 # The clauses of soundness by the names that the independent program gives them. For each, so many lists must make a
 # call on a record that breaks this clause and no other: a planner without the clause gives them another answer. (But for
 # an earliest above its latest: such ends cannot be met either.)
 CLAUSES = ["n below 1", "n above 24", "m above 128", "p below 1", "p above 16", "from of n or above",
-           "to of n or above", "from = to", "w below -1,000", "w above 1,000", "D above 1,024",
+           "to of n or above", "from = to", "w below -1,000", "w above 1,000", "D above 1,024", "D above 1,024 by rests",
            "delays that cannot be met", "a clash that is not listed", "a side above 1", "one clash twice",
            "a turn after an empty place", "a turn while ended", "total above 100,000,000", "a start above 43,000",
            "latency above 43,016", "edition below 1", "edition above 2", "a line in edition 1", "earliest above 20,000",
-           "earliest above latest", "an earliest without a line", "a latest without a line", "ends that cannot be met"]
+           "earliest above latest", "an earliest without a line", "a latest without a line", "ends that cannot be met",
+           "a rest above 7", "a rest in edition 1"]
 FEWEST = 10
-GONE_ON = 100  # lists, for each way to change tables or windows, whose search goes on after it and ends in a plan
+GONE_ON = 100  # lists, for each way to change tables, windows or rests, whose search goes on after it and ends in a plan
+WAYS = 27  # to change them, in batches of edition 01, with windows, and with rests
 
 
 def some_batches(rng):
@@ -37,8 +40,9 @@ def known_batches(made, independent):
     for one, answer in zip(made, answers(independent, calls)[1::2]):
         words = answer.split(" :")[0].split()
         if words[1] in "PN":
-            jobs, delays = one[:2]
-            yield Known(joined(lines(*one)), len(jobs), len(delays), clash_count(jobs), int(words[-1]), words[1] == "P")
+            data = joined(lines(*one))
+            jobs, delays, _, rests = read_file(data)
+            yield Known(data, len(jobs), len(delays), clash_count(jobs, rests), int(words[-1]), words[1] == "P")
 
 
 def in_cases(cases, given):
@@ -96,8 +100,8 @@ def check_clauses(tally, lists, said):
 
 
 def check_changed(tally, cases, due):
-    """Enough searches go on after their tables or windows changed, in each way, and end in a plan."""
-    changes = ("list: last ticks", "list: 02: last ticks", "list: 02: windows")
+    """Enough searches go on after their tables, windows or rests changed, in each way, and end in a plan."""
+    changes = ("list: last ticks", "list: 02: last ticks", "list: 02: windows", "list: rests: last ticks", "list: rests: rests")
     plans = {kind: 0 for kind, _ in cases if kind.startswith(changes)}
     for kind, _, given in in_cases(cases, due):
         if kind in plans:
@@ -105,8 +109,8 @@ def check_changed(tally, cases, due):
     for kind, count in plans.items():
         if count < GONE_ON:
             tally.note("batches changed too seldom", False, kind, "%d plans" % GONE_ON, count)
-    if len(plans) < 16:
-        tally.note("batches changed too seldom", False, "ways to change them", 16, len(plans))
+    if len(plans) < WAYS:
+        tally.note("batches changed too seldom", False, "ways to change them", WAYS, len(plans))
     print("  plans after a change: " + "; ".join("%s: %d" % (kind[6:], count) for kind, count in plans.items()))
 
 
@@ -136,6 +140,9 @@ def main():
     second = random.Random(6)
     windowed = list(known_batches([some_windowed(second, 8) for _ in range(300)], [own, "calls"]))
     lists += [("list: " + kind, listed) for kind, listed in all_lists_02(second, known, windowed)]
+    third = random.Random(11)
+    rested = list(known_batches([some_rested(third, 8) for _ in range(300)], [own, "calls"]))
+    lists += [("list: " + kind, listed) for kind, listed in all_lists_rests(third, known, rested)]
     cases = [("file: " + kind, [opening(data), "R 40 24", "R 200 25"] + TEXTS) for kind, data in files] + lists
     every = [call for _, listed in cases for call in listed]
     asked = [call for _, listed in lists for call in listed]

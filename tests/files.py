@@ -1,14 +1,16 @@
 """The files that are compared: valid batches, damaged ones, and those at the limits, of both editions."""
 import random
 
-from batches import batch, joined, lines, window_line, windowed
+from batches import batch, joined, lines, rest_line, rested, window_line, windowed
 
 DAMAGES = ["bit flipped", "byte replaced", "byte put in", "byte taken out", "digit replaced", "lower case",
            "line dropped", "line doubled", "lines swapped", "line cut short", "line extended", "empty line",
            "carriage return", "last 0A missing", "bytes after the end", "header", "ticks", "delay's jobs", "delay's weight"]
 DAMAGES_02 = DAMAGES + ["window's job", "window's ends", "windows' order", "kind of a further line", "length of a further line",
                         "form of a further line", "delay among the windows"]
-KINDS = [0x00, 0x7F, 0xA0, 0xA1, 0xA2, 0xA3, 0xA4, 0xA5, 0xA6, 0xA7, 0xB0, 0xB1, 0xFF]  # only A3 is one of a further line
+DAMAGES_RESTS = DAMAGES + ["rest's station", "rest's ticks", "rests' order", "kind among the rests", "length of a rest's line",
+                           "form of a rest's line", "window behind a rest"]
+KINDS = [0x00, 0x7F, 0xA0, 0xA1, 0xA2, 0xA3, 0xA4, 0xA5, 0xA6, 0xA7, 0xB0, 0xB1, 0xFF]  # A3 and A4 are those of a further line
 NO_STARTS = [(0, 1, 1), (1, 0, 0)]  # no starts meet these delays
 SMALL_02 = ["A0020200", "A1010001", "A1010002"]  # two jobs on stations of their own; further lines may follow
 
@@ -30,6 +32,17 @@ def test_batch(last):
 
 def some_windowed(rng, most_jobs):
     return windowed(rng, some_batch(rng, most_jobs))
+
+
+def some_rested(rng, most_jobs):
+    """With windows or without, and with rests."""
+    made = some_batch(rng, most_jobs)
+    return rested(rng, windowed(rng, made) if rng.random() < 0.5 else made)
+
+
+def rest_test_batch(last):
+    """Two stations rest 7 ticks; D is 1,024 with a last job of 11 ticks, above with 12."""
+    return [[1]] * 12 + [[2] * 10, [2] * last], [], {}, {0: 7, 1: 7}
 
 
 def damaged_line(rng, kind, line, spot, n):
@@ -79,19 +92,37 @@ def damaged_window(rng, kind, n):
     return ["A2%02X%02X0000" % (0, n - 1)]  # a delay
 
 
-def damaged(rng, kind, jobs, delays, windows=None):
+def damaged_rest(rng, kind, n):
+    """The lines that come in the place of a rest's or behind the last one."""
+    station, right = rng.randrange(16), rest_line(rng.randrange(16), rng.randint(1, 7))
+    if kind == "rest's station":
+        return [rest_line(rng.choice([15, 16, 17, 31, 128, 255]), rng.choice([0, 1, 7, 8]))]
+    if kind == "rest's ticks":
+        return [rest_line(station, rng.choice([0, 0, 1, 7, 8, 8, 9, 15, 16, 128, 255]))]
+    if kind == "rests' order":
+        return [rest_line(rng.randrange(16), rng.randint(1, 2)) for _ in range(rng.choice([2, 2, 3, 17]))]
+    if kind == "kind among the rests":
+        return ["%02X" % rng.choice(KINDS) + right[2:]] + rng.choice([[], [right]])
+    if kind == "length of a rest's line":
+        return [(rng.choice(["A4", "A4%02X" % station, "A410", "A40008"]) + "01" * 9)[:2 * rng.choice([1, 2, 2, 4, 4, 6, 9])]]
+    if kind == "form of a rest's line":
+        return [rng.choice(["", right.lower(), right[:-1], right + "0", right + "\r", right + "G", " " + right, right[2:], "\x00"])]
+    return [right, window_line(rng.randrange(n), rng.choice([0, 9]), 9)] + rng.choice([[], [right]])
+
+
+def damaged(rng, kind, jobs, delays, windows=None, rests=None):
     """The file of a batch with one thing wrong; now and then the damage leaves it right."""
     n = len(jobs)
     if kind == "delay's jobs":
         i, j = rng.choice([(0, 0), (n, 0), (0, n), (255, 0), (n - 1, n - 1), (n - 1, 0), (0, n - 1), (24, 0), (0, 128)])
-        return joined(lines(jobs, delays[1:] + [(i, j, rng.choice([0, 1, 1001]))], windows))
+        return joined(lines(jobs, delays[1:] + [(i, j, rng.choice([0, 1, 1001]))], windows, rests))
     if kind == "delay's weight":
         w = rng.choice([1000, 1001, 1256, -1000, -1001, -1024, 32767, -32768, rng.randint(-1100, 1100)])
-        return joined(lines(jobs, delays[1:] + [(0, n - 1, w)], windows))
-    texts = lines(jobs, delays, windows)
-    if kind not in DAMAGES:  # a window's line, at any place among those that are there
-        place = rng.randint(1 + n + len(delays), len(texts))
-        return joined(texts[:place] + damaged_window(rng, kind, n) + texts[place + rng.randint(0, 1):])
+        return joined(lines(jobs, delays[1:] + [(0, n - 1, w)], windows, rests))
+    texts = lines(jobs, delays, windows, rests)
+    if kind not in DAMAGES:  # a further line, at any place among those that are there
+        place, made = rng.randint(1 + n + len(delays), len(texts)), damaged_window if kind in DAMAGES_02 else damaged_rest
+        return joined(texts[:place] + made(rng, kind, n) + texts[place + rng.randint(0, 1):])
     data = joined(texts)
     place = rng.randrange(len(data))
     if kind == "bit flipped":
@@ -163,11 +194,43 @@ def window_limits():
     yield [[0]] * 24, chain, {job: (20000 - 800 * job, 20000 + 1000 * job) for job in range(24)}
 
 
+def rest_limits():
+    """Stations and ticks on both sides of their limits, and every number of rests."""
+    jobs = [[1 << k % 16] for k in range(3)]
+    for station in list(range(18)) + [31, 127, 128, 255]:
+        for ticks in (0, 1, 6, 7, 8, 9, 128, 255):
+            yield jobs, [], {}, {station: ticks}
+            yield jobs, [], {0: (1, 9)}, {0: 1, station: ticks}
+    for count in range(17):
+        for ticks in (1, 2, 7):
+            yield jobs, [], {}, {station: ticks for station in range(count)}
+        yield jobs, [], {2: (0, 5)}, {station: 1 + station % 7 for station in range(16 - count, 16)}
+
+
+def rest_clash_limits():
+    """Clashes that rests bring to 1,024, or past it; with other refusals behind and none."""
+    for last in (1, 10, 11, 12, 13, 16):
+        jobs, _, windows, rests = rest_test_batch(last)
+        for delays in ([], [(k, k + 1, 24) for k in range(13)], NO_STARTS):
+            yield jobs, delays, windows, rests
+            yield jobs, delays, {13: (0, 0)}, {**rests, 15: 7}
+        for ticks in range(1, 7):
+            yield jobs, [], windows, {0: 7, 1: ticks}
+            yield jobs, [], windows, {0: ticks, 1: 7}
+    for ticks in range(1, 8):
+        yield [[0] * 15 + [1], [1] + [0] * 15], [], {}, {0: ticks}
+        yield [[1] * 4] * 13, [], {}, {0: ticks}
+        yield test_batch(13), [], {}, {0: ticks}
+        yield test_batch(13), [], {}, {15: ticks}
+
+
 def further_orders():
     """Every two further lines out of right ones and of those that are refused, so that the first decides."""
     texts = [window_line(0, 0, 65535), window_line(1, 2, 9), window_line(0, 3, 2), window_line(1, 20001, 65535), window_line(2, 0, 1),
-             "A300", "A30000000001FF", "A302000500", "A200010000", "A40001", "A1010001", "A502000001", "A60102", "A70001", "FF",
+             "A300", "A30000000001FF", "A302000500", "A200010000", "A1010001", "A502000001", "A60102", "A70001", "FF",
              "", "A3000000FFF", "a30000000001", "G"]
+    texts += [rest_line(0, 1), rest_line(1, 7), rest_line(15, 7), rest_line(0, 0), rest_line(0, 8), rest_line(16, 1), rest_line(255, 255),
+              "A4", "A400", "A4000100", "A410000000", "A4000", "a40001", "A4000G"]
     for first in texts:
         yield joined(SMALL_02 + [first])
         yield joined(SMALL_02 + [first])[:-1]
@@ -176,19 +239,21 @@ def further_orders():
 
 
 def editions():
-    """Every edition, with a window's line and without; those of no further line that follows."""
+    """Every edition, with a window's line, with a rest's and without; those of no further line that follows."""
     for edition in range(256):
-        for tail in (b"", b"A30000000001\n", b"\n", b"0"):
+        for tail in (b"", b"A30000000001\n", b"A40001\n", b"\n", b"0"):
             yield b"A0%02X0100\nA1010001\n" % edition + tail
 
 
 def before_nine_and_ten():
     """Files with more than 1,024 clashes, or with delays that cannot be met, whose further lines are right or not."""
     for jobs, delays in ((test_batch(14), []), (test_batch(14), NO_STARTS), ([[1], [2]], NO_STARTS), (test_batch(13), NO_STARTS)):
-        for window in ("A30000000000", "A30000000001", "A30000010000", "A301FFFFFFFF", "A3FF00000001", "A300", "A40001", "", "A3"):
-            yield joined(lines(jobs, delays, {}) + ([window] if window else []))
-            yield joined(lines(jobs, delays, {}) + [window])
-            yield joined(lines(jobs, delays, {0: (0, 0)}) + [window])
+        for line in ("A30000000000", "A30000000001", "A30000010000", "A301FFFFFFFF", "A3FF00000001", "A300", "", "A3",
+                     "A40001", "A40F07", "A40000", "A40008", "A41001", "A4FFFF", "A4", "A400", "A4000000", "A50001"):
+            yield joined(lines(jobs, delays, {}) + ([line] if line else []))
+            yield joined(lines(jobs, delays, {}) + [line])
+            yield joined(lines(jobs, delays, {0: (0, 0)}) + [line])
+            yield joined(lines(jobs, delays, {}, {0: 1}) + [line])
 
 
 def over_long():
@@ -234,6 +299,7 @@ def over_long_02():
             yield (head + ((digits + "0" * 65536)[:length] + "\n").encode())[:65536]
     yield head + b"\n" * 65508
     yield head + joined([window_line(0, 0, 1)] * 5000)
+    yield head + joined([rest_line(0, 1)] * 9000)
 
 
 def files_02(rng):
@@ -248,6 +314,21 @@ def files_02(rng):
     made += [("02: limits of ends", joined(lines(*one))) for one in window_limits()]
     made += [("02: limits", joined(lines(*one, {}))) for one in limits()]
     for name, files in (("lines in twos", further_orders()), ("editions", editions()), ("over-long", over_long_02()),
-                        ("20 before 9 and 10", before_nine_and_ten())):
+                        ("20 and 21 before 9 and 10", before_nine_and_ten())):
         made += [("02: " + name, data) for data in files]
+    return made + rested_files(random.Random(10))
+
+
+def rested_files(rng):
+    """Those with rests."""
+    made = [("rests: valid", joined(lines(*some_rested(rng, [12, 24, 5, 5][k % 4])))) for k in range(900)]
+    made += [("rests: " + kind, damaged(rng, kind, *some_rested(rng, 5))) for kind in DAMAGES_RESTS for _ in range(80)]
+    small = joined(["A0020200", "A1010001", "A102FF010002", "A3010000FFFF", "A40001", "A40F07"])
+    made += [("rests: " + kind, data) for kind, data in every_place(small)]
+    for _ in range(8):
+        data = joined(lines(*some_rested(rng, 4)))
+        made += [("rests: every place cut", data[:place]) for place in range(len(data) + 1)]
+    made += [("rests: limits", joined(lines(*one))) for one in rest_limits()]
+    made += [("rests: clash limit", joined(lines(*one)) + end) for one in rest_clash_limits() for end in (b"", b"\n")]
+    made += [("rests: in edition 01", b"A001" + joined(lines(*some_rested(rng, 4)))[4:]) for _ in range(60)]
     return made

@@ -1,8 +1,7 @@
-// The planner of document 01 with the judge, the latency and edition 02 of document 02, once more: written from their text
-// alone, to compare with. `independent plan` behaves as the program `plan`, `independent calls` as the check program.
-// `independent clauses` takes the same calls and answers an R, P or B with its letter and the clauses of soundness that
-// its record breaks.
-use std::collections::HashSet;
+// The planner of document 01 with the judge, the latency, edition 02 and the rests of document 02, once more: written from
+// their text alone, to compare with. `independent plan` behaves as the program `plan`, `independent calls` as the check
+// program. `independent clauses` takes the same calls and answers an R, P or B with its letter and the clauses of soundness
+// that its record breaks.
 use std::io::{BufRead, Read, Write};
 
 const EMPTY: (u64, u64) = (65535, 0);
@@ -29,6 +28,7 @@ struct Record {
     masks: [[u64; 16]; 24],
     delays: [Inequality; 128],
     windows: [Window; 24],
+    rests: [u64; 16], // r of each station, 0 without a line
     path: [(u64, u64); 1024],
     best: Option<u64>,
     starts: [u64; 24],
@@ -52,6 +52,7 @@ fn blank() -> Record {
         masks: [[0; 16]; 24],
         delays: [(0, 0, 0); 128],
         windows: [NO_LINE; 24],
+        rests: [0; 16],
         path: [EMPTY; 1024],
         best: None,
         starts: [0; 24],
@@ -126,7 +127,7 @@ fn open(mut file: &[u8]) -> Result<Record, u64> {
         refuse(8, !file.is_empty())?;
     }
     further_lines(&mut r, file)?;
-    refuse(9, clashes(&r).len() > 1024)?;
+    refuse(9, clashes(&r, &r.rests).len() > 1024)?;
     refuse(10, least_starts(&r.windows[..r.n], &r.delays[..r.m]).is_none())?;
     Ok(r)
 }
@@ -134,7 +135,7 @@ fn open(mut file: &[u8]) -> Result<Record, u64> {
 /// The lines after the delays, of kinds that never fall, up to the end of the file.
 fn further_lines(r: &mut Record, mut file: &[u8]) -> Result<(), u64> {
     let mut kind_before = 0;
-    let mut job_before = None;
+    let (mut job_before, mut station_before) = (None, None);
     while !file.is_empty() {
         let line = next_line(&mut file)?;
         let kind = line[0];
@@ -142,6 +143,7 @@ fn further_lines(r: &mut Record, mut file: &[u8]) -> Result<(), u64> {
         kind_before = kind;
         match kind {
             0xA3 => window_line(r, &line, &mut job_before)?,
+            0xA4 => rest_line(r, &line, &mut station_before)?,
             _ => return Err(2),
         }
     }
@@ -160,6 +162,17 @@ fn window_line(r: &mut Record, line: &[u8], job_before: &mut Option<usize>) -> R
     Ok(())
 }
 
+/// A4, station, r.
+fn rest_line(r: &mut Record, line: &[u8], station_before: &mut Option<usize>) -> Result<(), u64> {
+    refuse(2, line.len() != 3)?;
+    let (station, rest) = (line[1] as usize, line[2] as u64);
+    refuse(21, station > 15 || station_before.is_some_and(|before| station <= before))?;
+    refuse(21, rest < 1 || rest > 7)?;
+    *station_before = Some(station);
+    r.rests[station] = rest;
+    Ok(())
+}
+
 // ---- latency, clashes, least starts, soundness
 
 /// When a job that starts then finishes: its start plus the number of its last tick that is not empty plus 1. One that
@@ -174,19 +187,29 @@ fn latency(r: &Record, starts: impl Iterator<Item = u64>) -> u64 {
     starts.enumerate().map(|(job, start)| finish(r, job, start)).fold(0, u64::max)
 }
 
-fn clashes(r: &Record) -> Vec<Inequality> {
+/// A tick in which one job holds a station and one in which a different job holds it must be more than its r apart. So
+/// jobs i and j clash at a distance d when a station is in mask a of i and in mask b of j, and a and b + d are no more
+/// than its r apart. All such d, from -22 to 22, rising.
+fn distances(r: &Record, rests: &[u64; 16], i: usize, j: usize) -> Vec<i64> {
+    let mut met = [false; 45];
+    for a in 0..r.ticks[i] {
+        for b in 0..r.ticks[j] {
+            let shared = r.masks[i][a] & r.masks[j][b];
+            let stations = (0..16).filter(|station| shared >> station & 1 == 1);
+            if let Some(most) = stations.map(|station| rests[station]).max() {
+                let (middle, most) = (a as i64 - b as i64, most as i64);
+                (middle - most..=middle + most).for_each(|d| met[(22 + d) as usize] = true);
+            }
+        }
+    }
+    (-22..=22).filter(|d| met[(22 + d) as usize]).collect()
+}
+
+fn clashes(r: &Record, rests: &[u64; 16]) -> Vec<Inequality> {
     let mut list = Vec::new();
     for i in 0..r.n {
         for j in i + 1..r.n {
-            for d in -15i64..=15 {
-                let shared = (0..r.ticks[i]).any(|a| {
-                    let b = a as i64 - d;
-                    b >= 0 && b < r.ticks[j] as i64 && r.masks[i][a] & r.masks[j][b as usize] != 0
-                });
-                if shared {
-                    list.push((i, j, d));
-                }
-            }
+            list.extend(distances(r, rests, i, j).into_iter().map(|d| (i, j, d)));
         }
     }
     list
@@ -229,13 +252,13 @@ struct Parts<'a> {
     delays: &'a [Inequality], // nothing if m is above 128
     windows: &'a [Window],    // of the jobs; nothing if n is above 24
     turns: Vec<(u64, u64)>,   // the places of the path that are not empty, wherever they stand
-    readable: bool,           // the jobs are: n is at most 24 and every p at most 16
+    readable: bool,           // tables and rests are: n is at most 24, every p at most 16 and every r at most 7
     clashes: Vec<Inequality>, // nothing if they are not
 }
 
 fn parts(r: &Record) -> Parts<'_> {
     let ticks = r.ticks.get(..r.n).unwrap_or(&[]);
-    let readable = r.n <= 24 && ticks.iter().all(|p| *p <= 16);
+    let readable = r.n <= 24 && ticks.iter().all(|p| *p <= 16) && r.rests.iter().all(|rest| *rest <= 7);
     Parts {
         record: r,
         ticks,
@@ -243,7 +266,7 @@ fn parts(r: &Record) -> Parts<'_> {
         windows: r.windows.get(..r.n).unwrap_or(&[]),
         turns: r.path.iter().copied().filter(|place| *place != EMPTY).collect(),
         readable,
-        clashes: if readable { clashes(r) } else { Vec::new() },
+        clashes: if readable { clashes(r, &r.rests) } else { Vec::new() },
     }
 }
 
@@ -262,7 +285,8 @@ const CLAUSES: &[Clause] = &[
     ("from = to", |it| it.delays.iter().any(|delay| delay.0 == delay.1)),
     ("w below -1,000", |it| it.delays.iter().any(|delay| delay.2 < -1000)),
     ("w above 1,000", |it| it.delays.iter().any(|delay| delay.2 > 1000)),
-    ("D above 1,024", |it| it.clashes.len() > 1024),
+    ("D above 1,024", too_many_alone),
+    ("D above 1,024 by rests", |it| it.clashes.len() > 1024 && !too_many_alone(it)),
     ("delays that cannot be met", no_starts),
     ("a clash that is not listed", unlisted),
     ("a side above 1", |it| it.turns.iter().any(|turn| turn.1 > 1)),
@@ -280,6 +304,8 @@ const CLAUSES: &[Clause] = &[
     ("an earliest without a line", |it| it.windows.iter().any(|window| window.lined == 0 && window.earliest != 0)),
     ("a latest without a line", |it| it.windows.iter().any(|window| window.lined == 0 && window.latest != 65_535)),
     ("ends that cannot be met", passed_ends),
+    ("a rest above 7", |it| it.record.rests.iter().any(|rest| *rest > 7)),
+    ("a rest in edition 1", |it| it.record.edition == 1 && it.record.rests.iter().any(|rest| *rest != 0)),
 ];
 
 /// The starts after the rounds by the delays, from the earliest starts on; nothing where a delay names no job of the batch.
@@ -299,6 +325,11 @@ fn passed_ends(it: &Parts) -> bool {
     let starts = rounds_of(it).flatten();
     let ordered = it.windows.iter().all(|window| window.earliest <= window.latest);
     ordered && starts.is_some_and(|starts| !in_time(it.windows, &starts))
+}
+
+/// D is above 1,024 whatever the rests are. Asked where the clashes are known.
+fn too_many_alone(it: &Parts) -> bool {
+    it.clashes.len() > 1024 && clashes(it.record, &[0; 16]).len() > 1024
 }
 
 /// Asked where the clashes are known.
@@ -436,6 +467,9 @@ fn batch_text(r: &Record) -> Result<String, u64> {
     for (job, window) in r.windows[..r.n].iter().enumerate().filter(|(_, window)| window.lined != 0) {
         text += &format!("A3{:02X}{:04X}{:04X}\n", job, window.earliest, window.latest);
     }
+    for (station, rest) in r.rests.iter().enumerate().filter(|(_, rest)| **rest != 0) {
+        text += &format!("A4{:02X}{:02X}\n", station, rest);
+    }
     Ok(text)
 }
 
@@ -472,23 +506,35 @@ fn plan_lines(mut text: &[u8]) -> Option<PlanText> {
     Some(plan)
 }
 
-/// What a job that starts in this tick holds: every tick with every station.
-fn held(r: &Record, job: usize, start: u64) -> Vec<(u64, u64)> {
+/// A job that holds a station in a tick.
+struct Held {
+    job: usize,
+    station: usize,
+    tick: u64,
+}
+
+/// All that a job holds that starts in this tick.
+fn held(r: &Record, job: usize, start: u64) -> Vec<Held> {
     let mut list = Vec::new();
-    for tick in 0..r.ticks[job] {
-        let stations = (0..16).filter(|station| r.masks[job][tick] >> station & 1 == 1);
-        list.extend(stations.map(|station| (start + tick as u64, station)));
+    for a in 0..r.ticks[job] {
+        let stations = (0..16).filter(|station| r.masks[job][a] >> station & 1 == 1);
+        list.extend(stations.map(|station| Held { job, station, tick: start + a as u64 }));
     }
     list
 }
 
-/// Every delay is kept, every start is within its ends, and no station is held twice in a tick.
+/// Any two ticks in which different jobs hold one station are more than its r apart.
+fn rested(r: &Record, starts: &[u64]) -> bool {
+    let all: Vec<Held> = (0..r.n).flat_map(|job| held(r, job, starts[job])).collect();
+    let apart = |x: &Held, y: &Held| x.tick.abs_diff(y.tick) > r.rests[x.station];
+    all.iter().all(|x| all.iter().all(|y| x.station != y.station || x.job == y.job || apart(x, y)))
+}
+
+/// Every delay is kept, every start is within its ends, and every station has its rest between two jobs.
 fn valid(r: &Record, starts: &[u64]) -> bool {
     let kept = |&(i, j, w): &Inequality| starts[j] as i64 - starts[i] as i64 >= w;
     let within = |(start, window): (&u64, &Window)| (window.earliest..=window.latest).contains(start);
-    let all: Vec<(u64, u64)> = (0..r.n).flat_map(|job| held(r, job, starts[job])).collect();
-    let different: HashSet<&(u64, u64)> = all.iter().collect();
-    r.delays[..r.m].iter().all(kept) && starts.iter().zip(&r.windows).all(within) && different.len() == all.len()
+    r.delays[..r.m].iter().all(kept) && starts.iter().zip(&r.windows).all(within) && rested(r, starts)
 }
 
 fn judge(file: &[u8], text: &[u8]) -> Result<(), u64> {
@@ -529,6 +575,7 @@ fn shown(r: &Record) -> String {
     for window in r.windows {
         numbers.extend([window.lined, window.earliest, window.latest]);
     }
+    numbers.extend(r.rests);
     for (clash, side) in r.path {
         numbers.extend([clash, side]);
     }
@@ -547,7 +594,7 @@ fn shown(r: &Record) -> String {
 /// Sets one place; false where an argument is out of range.
 fn set(r: &mut Record, field: u64, a: usize, b: usize, value: u64) -> bool {
     let most = match field {
-        0 | 1 | 4 | 5 => 255,
+        0 | 1 | 4 | 5 | 17 => 255,
         2 | 3 | 6 | 7 | 8 | 10 | 13..=16 => 65_535,
         9 => 65_536,
         11 => 4_294_967_295,
@@ -558,6 +605,7 @@ fn set(r: &mut Record, field: u64, a: usize, b: usize, value: u64) -> bool {
         2 | 3 | 10 | 14..=16 => 24,
         4 | 5 | 6 => 128,
         7 | 8 => 1024,
+        17 => 16,
         _ => usize::MAX,
     };
     if value > most || a >= places || (field == 3 && b >= 16) {
@@ -580,7 +628,8 @@ fn set(r: &mut Record, field: u64, a: usize, b: usize, value: u64) -> bool {
         13 => r.edition = value,
         14 => r.windows[a].lined = value,
         15 => r.windows[a].earliest = value,
-        _ => r.windows[a].latest = value,
+        16 => r.windows[a].latest = value,
+        _ => r.rests[a] = value,
     }
     true
 }

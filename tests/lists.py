@@ -1,13 +1,13 @@
 """The lists of calls that are compared. Each begins with an opening."""
-from batches import clash_count, joined, lines, opening, windows_for
-from files import test_batch
+from batches import clash_count, joined, lines, opening, rests_for, windows_for
+from files import rest_test_batch, test_batch
 from plans import read_file
 
 # Fields of the call S by their numbers.
-EDITION, LINED, EARLIEST, LATEST = 13, 14, 15, 16
+EDITION, LINED, EARLIEST, LATEST, REST = 13, 14, 15, 16, 17
 NONE = 65536  # best's value for none
 EMPTY = 65535
-TEXTS = ["P 240", "B 3390", "D"]  # long enough for every plan and batch
+TEXTS = ["P 240", "B 3500", "D"]  # long enough for every plan and batch
 # Ticks of jobs, station by station: 995 to 1,023 clashes, so that two more jobs can make them 1,024.
 CLASH_GROUPS = [[[16] * 8 + [1]], [[3] * 15 + [2] * 7], [[8] * 10 + [9] * 2], [[16] * 6, [16] * 3 + [12] * 3 + [10]],
                 [[16] * 5, [16] * 5, [16] * 5, [16, 14, 10]]]
@@ -149,11 +149,35 @@ def window_edits(n):
     yield none + edition(2) + [call for job in range(n) for call in window(job, 1 + job, 5, 4000)]
 
 
+def rest(station, ticks):
+    return "S %d %d 0 %d" % (REST, station, ticks)
+
+
+NO_RESTS = [rest(station, 0) for station in range(16)]
+
+
+def rest_edits():
+    """Changes of edition and rests that break one condition of soundness, or just do not."""
+    none = NO_RESTS + [call for job in range(24) for call in window(job, 0, 0, 65535)]
+    for number in (0, 1, 2, 3, 257):
+        for ticks in (0, 1, 7, 8):
+            yield none + edition(number) + [rest(9, ticks)]
+    for station in range(16):  # every rest has a place of its own
+        for ticks in (1, 2, 7, 8, 9, 16, 128, 255):
+            yield none + edition(2) + [rest(station, ticks)]
+        for ticks in (0, 1, 7, 8):
+            yield none + edition(1) + [rest(station, ticks)]
+    for all_over in (1, 7, 8, 255):
+        yield none + edition(2) + [rest(station, all_over) for station in range(16)]
+    yield none + edition(2) + [rest(station, 1 + station % 7) for station in range(16)]
+    yield none + edition(2) + window(0, 1, 2, 900) + [rest(0, 3), rest(15, 5)]
+
+
 def soundness(batch, changes=None):
-    after = ["D", "R 3 24", "D", "P 240", "B 3390", "R 1000001 0", "R 1 0", "R 1000000 25", "D", "P 240"]
+    after = ["D", "R 3 24", "D", "P 240", "B 3500", "R 1000001 0", "R 1 0", "R 1000000 25", "D", "P 240"]
     for state in states(batch):
         for edit in changes or edits(batch.n, batch.m, batch.clashes):
-            yield "soundness" + (" of windows" if changes else ""), state + edit + after
+            yield "soundness" + (" of further lines" if changes else ""), state + edit + after
 
 
 def foreign(rng, batch):
@@ -190,7 +214,7 @@ def changed_tables(rng, batch):
 
 def window_changes(rng, batch):
     """Changes of a batch's windows, by name. Those that are there are all taken away first."""
-    jobs, delays, _ = read_file(batch.data)
+    jobs, delays, *_ = read_file(batch.data)
     job, none = rng.randrange(batch.n), [call for job in range(24) for call in window(job, 0, 0, 65535)]
     made = [call for job, ends in windows_for(rng, jobs, delays).items() for call in window(job, rng.choice([1, 2, 256]), *ends)]
     yield "taken away", none + edition(rng.choice([1, 2]))
@@ -212,7 +236,7 @@ def deep_windows(rng):
     """Searches whose paths are long, with windows that change them: some jobs not before a tick, others not after one."""
     for name in ("css21", "twelve", "full", "clashes-400", "clashes-1024", "scope-limit"):
         with open("../bench/batches/%s.batch" % name, "rb") as file:
-            jobs, delays, _ = read_file(file.read())
+            jobs, delays, *_ = read_file(file.read())
         for far in (3, 6, 6, 40):
             chosen = rng.sample(range(len(jobs)), 5)
             windows = {job: (rng.randint(1, far), 65535) for job in chosen[:3]}
@@ -220,6 +244,41 @@ def deep_windows(rng):
             budgets = [rng.choice([1, 2, 9, 33, 100, 1000, rng.randint(1, 3000)]) for _ in range(12)]
             calls = [call for b in budgets for call in ("R %d 24" % b, "D")]
             yield "deep paths, windows", [opening(joined(lines(jobs, delays, windows)))] + calls + TEXTS
+
+
+def rest_changes(rng, batch):
+    """Changes of a batch's rests, by name. Those that are there are all taken away first."""
+    jobs = read_file(batch.data)[0]
+    held = [station for station in range(16) if any(mask >> station & 1 for masks in jobs for mask in masks)]
+    free = [station for station in range(16) if station not in held]
+    yield "taken away", NO_RESTS
+    yield "others", NO_RESTS + edition(2) + [rest(*one) for one in rests_for(rng, jobs).items()]
+    yield "one station", NO_RESTS + edition(2) + [rest(rng.choice(held or free), rng.randint(1, 3))]
+    yield "all stations", edition(2) + [rest(station, rng.randint(1, 2)) for station in range(16)]
+    yield "all sevens", edition(2) + [rest(station, 7) for station in range(16)]
+    yield "where none is held", edition(2) + [rest(station, 7) for station in free]
+
+
+def changed_rests(rng, batch):
+    """Searches that go on after their rests changed: the numbers of their turns are then those of other clashes."""
+    for name, changes in rest_changes(rng, batch):
+        begun = [opening(batch.data), "R %d 24" % rng.choice([0, 0, rng.randrange(batch.total), batch.total - 1])]
+        yield "rests " + name, begun + changes + ["D", "R 1 24", "D", "R 9 24", "D", "R 2000 24"] + TEXTS
+
+
+def deep_rests(rng):
+    """Searches whose paths are long, with rests as many as leave 1,024 clashes or fewer."""
+    for name in ("css21", "twelve", "full", "clashes-400"):
+        with open("../bench/batches/%s.batch" % name, "rb") as file:
+            jobs, delays, *_ = read_file(file.read())
+        for most in (1, 1, 2, 7):
+            rests = {}
+            for station in rng.sample(range(16), 16):
+                more = {**rests, station: rng.randint(1, most)}
+                rests = more if clash_count(jobs, more) <= 1024 else rests
+            budgets = [rng.choice([1, 2, 9, 33, 100, 1000, rng.randint(1, 3000)]) for _ in range(12)]
+            calls = [call for b in budgets for call in ("R %d 24" % b, "D")]
+            yield "deep paths", [opening(joined(lines(jobs, delays, {}, rests)))] + calls + TEXTS
 
 
 def full_path():
@@ -240,16 +299,16 @@ def most_clashes(rng, groups):
     return [jobs[k] for k in order], order.index(len(jobs) - 2), order.index(len(jobs) - 1)
 
 
-def clash_states(jobs):
+def clash_states(jobs, *further):
     """Calls that lead to searches of these jobs: fresh, unfinished, from anywhere with turns and a best, and ended. The
     last one has delays that leave one order, so that it takes one node."""
-    first = [opening(joined(lines(jobs, [])))]
+    first = [opening(joined(lines(jobs, [], *further)))]
     turns = turn(0, 1023, 1) + turn(1, 0, 0) + turn(2, 512, 1)
-    order = [(k, k + 1, 16) for k in range(len(jobs) - 1)]
+    order = [(k, k + 1, 24) for k in range(len(jobs) - 1)]
     yield first
     yield first + ["R 50 24"]
     yield first + turns + ["S 9 0 0 43016", "S 10 0 0 43000", "S 11 0 0 99999000"]
-    yield [opening(joined(lines(jobs, order))), "R 1 24"]
+    yield [opening(joined(lines(jobs, order, *further))), "R 1 24"]
 
 
 def clash_edits(jobs, one, other):
@@ -272,6 +331,20 @@ def clash_limit(rng):
     for jobs, one, other in [most_clashes(rng, groups) for groups in CLASH_GROUPS] + [(test_batch(13), 10, 9)]:
         for state in clash_states(jobs):
             for edit in clash_edits(jobs, one, other):
+                yield "clash limit", state + edit + ["D", "R 3 24", "D"] + TEXTS
+
+
+def rest_limit():
+    """Batches that rests bring to 1,024 clashes; then the rests change by one tick, or a table does."""
+    jobs, _, *further = rest_test_batch(11)
+    longer = jobs[:-1] + [jobs[-1] + [2, 2]]  # 1,024 with 6 ticks for station 1
+    for tables, rests in ((jobs, further[1]), (longer, {0: 7, 1: 6})):
+        last, ticks = len(tables) - 1, len(tables[-1])
+        edits = [[rest(station, r)] for station in (0, 1) for r in (0, 1, 5, 6, 7, 8)]
+        edits += [[rest(15, 7)], [rest(0, 6), rest(1, 7)], ["S 3 0 0 2"], ["S 3 0 0 3"], ["S 2 %d 0 %d" % (last, ticks + 1)]]
+        edits.append(["S 2 %d 0 %d" % (last, ticks + 1), "S 3 %d %d 2" % (last, ticks)])
+        for state in clash_states(tables, {}, rests):
+            for edit in edits:
                 yield "clash limit", state + edit + ["D", "R 3 24", "D"] + TEXTS
 
 
@@ -305,3 +378,23 @@ def all_lists_02(rng, known, windowed):
     for batch in known[::3] + windowed:
         made += changed_windows(rng, batch)
     return [("02: " + kind, calls) for kind, calls in made + list(deep_windows(rng))]
+
+
+def all_lists_rests(rng, known, rested):
+    """Every list with rests, from batches of edition 01 and from those that have rests."""
+    made = [one for batch in rested for one in runs(rng, batch)]
+    deep = [batch for batch in rested if batch.total >= 5]
+    for batch in deep[:12] + [batch for batch in rested if not batch.plan][:4]:
+        made += lengths(batch)
+    for batch in [batch for batch in deep if batch.m >= 2][:2]:
+        made += soundness(batch)
+    for batch in [batch for batch in known if batch.total >= 5][:1] + deep[:3]:
+        made += soundness(batch, list(rest_edits()))
+    for batch in rested:
+        made += foreign(rng, batch)
+        made += changed_tables(rng, batch)
+    for batch in known[::3] + rested:
+        made += changed_rests(rng, batch)
+    for batch in rested[::3]:
+        made += changed_windows(rng, batch)
+    return [("rests: " + kind, calls) for kind, calls in made + list(rest_limit()) + list(deep_rests(rng))]

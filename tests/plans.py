@@ -1,15 +1,17 @@
-"""Plans beside their batch: what a batch file says, what is wrong with a plan, and plan texts."""
-from collections import Counter
+"""Plans beside their batch: what a batch file says, what is wrong with a plan, the shortest of all plans, and plan texts."""
+from itertools import combinations, product
 
 
 def read_file(data):
-    """Jobs, delays and windows of a batch file, read here once more from its bytes; windows are None in edition 01."""
+    """Jobs, delays, windows and rests of a batch file, read here once more from its bytes; windows are None in edition 01."""
     frames = [bytes.fromhex(line) for line in data.decode().splitlines()]
     edition, n, m = frames[0][1:]
     jobs = [[int.from_bytes(f[k:k + 2], "big") for k in range(2, len(f), 2)] for f in frames[1:1 + n]]
     delays = [(f[1], f[2], int.from_bytes(f[3:5], "big", signed=True)) for f in frames[1 + n:1 + n + m]]
-    windows = {f[1]: (int.from_bytes(f[2:4], "big"), int.from_bytes(f[4:6], "big")) for f in frames[1 + n + m:]}
-    return jobs, delays, windows if edition == 2 else None
+    further = frames[1 + n + m:]
+    windows = {f[1]: (int.from_bytes(f[2:4], "big"), int.from_bytes(f[4:6], "big")) for f in further if f[0] == 0xA3}
+    rests = {f[1]: f[2] for f in further if f[0] == 0xA4}
+    return jobs, delays, windows if edition == 2 else None, rests
 
 
 def latency_of(jobs, starts):
@@ -23,17 +25,32 @@ def outlasted(jobs, starts, latency):
     return any(start + len(masks) > latency for start, masks in zip(starts, jobs))
 
 
-def faults(jobs, delays, windows, starts, latency):
-    """What is wrong with a plan: delays, ends, stations tick by tick, latency."""
+def too_close(jobs, rests, starts):
+    """Every two ticks in which different jobs hold one station and that are not more than its rest apart, as (station,
+    tick, tick)."""
+    for station in range(16):
+        held = [(job, starts[job] + a) for job, masks in enumerate(jobs) for a, mask in enumerate(masks) if mask >> station & 1]
+        for (one, x), (other, y) in combinations(held, 2):
+            if one != other and abs(x - y) <= rests.get(station, 0):
+                yield station, x, y
+
+
+def faults(jobs, delays, windows, rests, starts, latency):
+    """What is wrong with a plan: delays, ends, stations tick by tick and their rests, latency."""
     found = ["delay %d %d %d" % d for d in delays if starts[d[1]] - starts[d[0]] < d[2]]
     found += ["end of job %d" % job for job, (earliest, latest) in (windows or {}).items()
               if not earliest <= starts[job] <= latest]
-    held = Counter((starts[i] + a, s) for i, masks in enumerate(jobs)
-                   for a, mask in enumerate(masks) for s in range(16) if mask >> s & 1)
-    found += ["tick %d station %d" % key for key, times in held.items() if times > 1]
+    found += ["tick %d station %d" % (x, station) if x == y else "rest of station %d in ticks %d and %d" % (station, x, y)
+              for station, x, y in too_close(jobs, rests, starts)]
     if latency != latency_of(jobs, starts):
         found.append("latency")
     return found
+
+
+def shortest(jobs, delays, windows, rests, most):
+    """The latency of the shortest valid plan among all whose starts are up to so many; None where none of them is valid."""
+    plans = [(latency_of(jobs, starts), starts) for starts in product(range(most + 1), repeat=len(jobs))]
+    return next((latency for latency, starts in sorted(plans) if not faults(jobs, delays, windows, rests, starts, latency)), None)
 
 
 def plan_text(starts, latency, total):

@@ -4,7 +4,7 @@ own with another file, and cases by name.
 A case is (kind, file, text, due). due is the number that the documents or the check of plans.py give, 0 where the text
 passes, and None where the independent program alone says it. PLAN's texts come as (file, text)."""
 from batches import joined, lines, stay
-from files import DAMAGES, DAMAGES_02, damaged
+from files import DAMAGES, DAMAGES_02, DAMAGES_RESTS, damaged, rest_test_batch
 from plans import faults, latency_of, plan_text, read_file, starts_of
 
 MOST = 65535  # of a start and of a latency
@@ -56,9 +56,20 @@ def changed(rng, printed):
 
 # ---- other starts
 
-def some_starts(rng, jobs, windows, starts):
+def rest_starts(rng, jobs, rests, starts):
+    """The starts of a plan with one job as far from another, at a station that both hold, as its rest is, and a tick further;
+    before it and behind it."""
+    held = [(job, a, station) for job, masks in enumerate(jobs) for a, mask in enumerate(masks) for station in rests if mask >> station & 1]
+    pairs = [(one, other) for one in held for other in held if one[0] != other[0] and one[2] == other[2]]
+    for (one, a, station), (other, b, _) in rng.sample(pairs, min(6, len(pairs))):
+        for apart in (rests[station], rests[station] + 1):
+            for tick in (starts[one] + a - apart, starts[one] + a + apart):
+                yield starts[:other] + [max(0, tick - b)] + starts[other + 1:]
+
+
+def some_starts(rng, jobs, windows, rests, starts):
     """Starts near those of a valid plan, and the same plan later, up to the last starts that a text can have; a job with a
-    window at its ends and past them."""
+    window at its ends and past them; two jobs as far apart as a station's rest, and a tick further."""
     room, latency = MOST - max(starts), latency_of(jobs, starts)
     yield starts
     for _ in range(3):
@@ -75,6 +86,7 @@ def some_starts(rng, jobs, windows, starts):
             yield starts[:job] + [start] + starts[job + 1:]
         yield [min(MOST, start + latest - starts[job]) for start in starts]  # the whole plan, as late as this job may be
         yield [min(MOST, start + latest - starts[job] + 1) for start in starts]
+    yield from rest_starts(rng, jobs, rests, starts)
 
 
 def starts_kind(found, longer):
@@ -88,13 +100,13 @@ def starts_kind(found, longer):
 def other_starts(rng, printed):
     """Plans of other starts, as the check by delays, ticks and stations judges them."""
     for data, text in printed:
-        jobs, delays, windows = read_file(data)
+        jobs, delays, windows, rests = read_file(data)
         shortest = latency_of(jobs, starts_of(text))
-        for starts in some_starts(rng, jobs, windows, starts_of(text)):
+        for starts in some_starts(rng, jobs, windows, rests, starts_of(text)):
             right = latency_of(jobs, starts)
             off = [max(0, right + rng.choice([1, -1, 256, -256]))] if rng.random() < 0.4 else []
             for latency in [right] + off:
-                found = faults(jobs, delays, windows, starts, latency & MOST)  # as two bytes have it
+                found = faults(jobs, delays, windows, rests, starts, latency & MOST)  # as two bytes have it
                 kind = "starts: latency past 65,535" if right > MOST else starts_kind(found, right > shortest)
                 yield kind, data, plan_text(starts, latency, rng.choice(TOTALS)), 19 if found else 0
 
@@ -108,9 +120,9 @@ def other_totals(rng, printed):
 def other_files(rng, printed):
     """PLAN's texts with a damaged file, and with the files of other batches, one of them with as many jobs."""
     for data, text in printed:
-        jobs, delays, windows = read_file(data)
-        for kind in rng.sample(DAMAGES if windows is None else DAMAGES_02, 12):
-            yield "file damaged", damaged(rng, kind, jobs, delays, windows), text, None
+        jobs, delays, windows, rests = read_file(data)
+        for kind in rng.sample(DAMAGES if windows is None else DAMAGES_RESTS if rests else DAMAGES_02, 12):
+            yield "file damaged", damaged(rng, kind, jobs, delays, windows, rests), text, None
         alike = [other for other, _ in printed if other[4:6] == data[4:6] and other != data]
         for other in [rng.choice(printed)[0]] + rng.sample(alike, min(2, len(alike))):
             yield "file of another batch", other, text, None
@@ -147,6 +159,13 @@ C3_WINDOWS = lined("A0020200 A1010001 A103000100020002 A300000103E8 A3010000FFFF
 TO_THE_LAST = lined("A0020100 A1010000 A3004E20FFFF")  # one job that holds nothing, from 20,000 on
 AT_ONCE = lined("A0020201 A1010001 A1010002 A20001FFFB A300000A000A A301000AFFFF")  # job 0 at 10, job 1 from then on
 NO_LINES = lined("A0020100 A1010001")  # edition 02, no further line
+RESTING = lined("A0020200 A1010001 A1010001 A40003")  # two jobs of one tick on station 0, which rests 3 ticks
+RESTS = lined("A0020200 A10200030002 A1020001000C A40002 A40101 A40207")  # they share station 0, which rests 2 ticks, alone
+GAPPED = lined("A0020200 A1040001000000000001 A1010002 A40007 A40107")  # job 0 holds station 0 in ticks 0 and 3
+# Two jobs of 16 ticks: the one holds station 0 in its last tick, the other in its first. Both ways, and without a rest.
+FARTHEST = lined("A0020200 A110" + "0000" * 15 + "0001 A1100001" + "0000" * 15 + " A40007")
+FARTHEST_BACK = lined("A0020200 A1100001" + "0000" * 15 + " A110" + "0000" * 15 + "0001 A40007")
+NOT_RESTING = lined("A0020200 A110" + "0000" * 15 + "0001 A1100001" + "0000" * 15)
 REFUSED = [lined("A0010"), lined("A0010100 A10100"), lined("A0030100 A1010001"), lined("A0010000"),
            lined("A0010201 A1010001 A1010002 A200000001"), lined("A0010201 A1010001 A1010002 A2000103E9"), b"",
            C2 + b"\n", joined(lines([[1] * 16] * 9, [])), lined("A0010202 A1010001 A1010002 A200010001 A201000000")]
@@ -188,6 +207,18 @@ def passing():
     yield "an earliest of 20,000", TO_THE_LAST, lined("B001014E2000000001 B1004E20")
     yield "a start that can be in one tick alone", AT_ONCE, lined("B00102000B00000000 B100000A B101000A")
     yield "a job without a latest, at FFFE", AT_ONCE, lined("B00102FFFF00000000 B100000A B101FFFE")
+    yield "rest 3, 4 ticks behind", RESTING, lined("B00102000500000000 B1000000 B1010004")
+    yield "rest 3, 4 ticks before", RESTING, lined("B00102000500000000 B1000004 B1010000")
+    yield "rest 3, far apart", RESTING, lined("B00102FFFF00000000 B1000000 B101FFFE")
+    yield "rests of the stations that one job alone holds", RESTS, lined("B00102000500000000 B1000000 B1010003")
+    yield "the same, the other way round", RESTS, lined("B00102000500000000 B1000003 B1010000")
+    yield "one job's own ticks, closer than the rest", GAPPED, lined("B00102000400000000 B1000000 B1010000")
+    yield "distance 23, rest 7", FARTHEST, lined("B00102001800000000 B1000000 B1010017")
+    yield "distance 7, rest 7", FARTHEST, lined("B00102001000000000 B1000000 B1010007")
+    yield "distance -23, rest 7", FARTHEST_BACK, lined("B00102001800000000 B1000017 B1010000")
+    yield "distance -7, rest 7", FARTHEST_BACK, lined("B00102001000000000 B1000007 B1010000")
+    yield "distance 16, no rest", NOT_RESTING, lined("B00102001100000000 B1000000 B1010010")
+    yield "distance 14, no rest", NOT_RESTING, lined("B00102001000000000 B1000000 B101000E")
 
 
 def out_of_form():
@@ -304,6 +335,18 @@ def not_valid():
     yield "the other job before its earliest, as the delay allows", AT_ONCE, lined("B00102000B00000000 B100000A B1010009")
     yield "within the ends, wrong latency", AT_ONCE, lined("B00102000C00000000 B100000A B101000A")
     yield "within the ends, a station twice", C3_WINDOWS, lined("B00102000400000000 B1000001 B1010001")
+    yield "rest 3, 3 ticks behind", RESTING, lined("B00102000400000000 B1000000 B1010003")
+    yield "rest 3, 3 ticks before", RESTING, lined("B00102000400000000 B1000003 B1010000")
+    yield "rest 3, in one tick", RESTING, lined("B00102000100000000 B1000000 B1010000")
+    yield "rest 3, 4 ticks apart, wrong latency", RESTING, lined("B00102000600000000 B1000000 B1010004")
+    yield "rest 3, the last two starts, nothing wraps", RESTING, lined("B00102FFFF00000000 B100FFFE B101FFFB")
+    yield "rest 2 at the station that both hold", RESTS, lined("B00102000400000000 B1000000 B1010002")
+    yield "the same, the other way round", RESTS, lined("B00102000400000000 B1000002 B1010000")
+    yield "distance 22, rest 7", FARTHEST, lined("B00102001700000000 B1000000 B1010016")
+    yield "distance 8, rest 7", FARTHEST, lined("B00102001000000000 B1000000 B1010008")
+    yield "distance -22, rest 7", FARTHEST_BACK, lined("B00102001700000000 B1000016 B1010000")
+    yield "distance -8, rest 7", FARTHEST_BACK, lined("B00102001000000000 B1000008 B1010000")
+    yield "distance 15, no rest", NOT_RESTING, lined("B00102001000000000 B1000000 B101000F")
 
 
 def several():
@@ -329,10 +372,15 @@ def several():
                            ("a B2 text", NO_PLAN), ("no job line", NO_JOB), ("the same bytes", data)):
             yield "a file refused by %d and %s" % (number, name), data, text, number
     for name, line, number in (("job 1 of one", "A30100000001", 20), ("earliest above latest", "A30000020001", 20), ("a short line", "A300", 2),
-                               ("a later kind", "A40001", 2), ("an empty line", "", 1), ("a line in edition 01", "A30000000001", 8)):
+                               ("a later kind", "A50001", 2), ("an empty line", "", 1), ("a line in edition 01", "A30000000001", 8),
+                               ("station 16", "A41001", 21), ("rest 0", "A40000", 21), ("rest 8", "A40008", 21),
+                               ("a short line of a rest", "A400", 2), ("a rest in edition 01", "A40001", 8)):
         for text in (C2_PLAN, b"", NO_PLAN):
             head = C2 if number == 8 else NO_LINES
             yield "a file with %s, and %d bytes" % (name, len(text)), head + line.encode() + b"\n", text, number
+    yield "17 before 19, no 0A and a rest", RESTING, lined("B00102000400000000 B1000000 B1010003")[:-1], 17
+    yield "18 before 19, a line too many and a rest", RESTING, lined("B00102000400000000 B1000000 B1010003 B1020000"), 18
+    yield "more than 1,024 clashes by rests, and a plan", joined(lines(*rest_test_batch(12))), C3_PLAN, 9
     yield "ends that cannot be met, and a plan", lined("A0020201 A1010001 A1010002 A200010005 A30100000004"), C3_PLAN, 10
     yield "file and text exchanged", C3_PLAN, C3, 2
 

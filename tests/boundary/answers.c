@@ -2,6 +2,10 @@
 #include "check.h"
 #include <string.h>
 
+/* Jobs of 16 ticks that hold station 0 in the last one, and in the first one. */
+#define LAST_TICK "A1100000000000000000000000000000000000000000000000000000000000000001\n"
+#define FIRST_TICK "A1100001000000000000000000000000000000000000000000000000000000000000\n"
+
 static void opened(const char *text, room *memory) {
     fill(memory, 0xA5);
     same(open_text(text, &memory->record), 0);
@@ -190,6 +194,39 @@ static void check_windows(void) {
     same_answer(run_starts(&memory, 3, starts, 2), PLANNER_PLAN, 0, 3, 3);
 }
 
+/* examples/laminator.batch: jobs 0 and 1 hold station 3, which rests 2 ticks; job 0 holds it in two ticks that follow each other. */
+static void check_rests(void) {
+    room memory;
+    planner_record *record = &memory.record;
+    uint16_t starts[4];
+    int k;
+    begin("the example with a rest: starts 0, 4, 1 with latency 7 after 15 nodes, as budgets share them out");
+    opened(RESTS, &memory);
+    same(record->batch.rests[3], 2);
+    for (k = 1; k < 15; k++)
+        same_answer(run_starts(&memory, 1, starts, 3), PLANNER_SPENT, 0, 0, k);
+    same_answer(run_starts(&memory, 1, starts, 3), PLANNER_PLAN, 0, 7, 15);
+    same_starts(starts, 0, 4, 1, 0xA5A5);
+    opened(RESTS, &memory);
+    same_answer(run_starts(&memory, PLANNER_BUDGET, starts, 3), PLANNER_PLAN, 0, 7, 15);
+    same_starts(starts, 0, 4, 1, 0xA5A5);
+    begin("the same without its rest: starts 0, 2, 1 with latency 5 after 7 nodes");
+    opened(RESTS, &memory);
+    record->batch.rests[3] = 0;
+    same_answer(run_starts(&memory, PLANNER_BUDGET, starts, 3), PLANNER_PLAN, 0, 5, 7);
+    same_starts(starts, 0, 2, 1, 0xA5A5);
+    begin("distances 22 and -22 are clashes of a rest of 7, distances 23 and -23 are not");
+    opened("A0020202\n" LAST_TICK FIRST_TICK "A200010016\nA20100FFEA\nA40007\n", &memory);
+    same_answer(run_starts(&memory, 3, starts, 2), PLANNER_NO_PLAN, 0, 0, 3);
+    opened("A0020202\n" LAST_TICK FIRST_TICK "A200010017\nA20100FFE9\nA40007\n", &memory);
+    same_answer(run_starts(&memory, 3, starts, 2), PLANNER_PLAN, 0, 24, 1);
+    opened("A0020202\n" FIRST_TICK LAST_TICK "A20001FFEA\nA201000016\nA40007\n", &memory);
+    same_answer(run_starts(&memory, 3, starts, 2), PLANNER_NO_PLAN, 0, 0, 3);
+    opened("A0020202\n" FIRST_TICK LAST_TICK "A20001FFE9\nA201000017\nA40007\n", &memory);
+    same_answer(run_starts(&memory, 3, starts, 2), PLANNER_PLAN, 0, 24, 1);
+    same_starts(starts, 23, 0, 0xA5A5, 0xA5A5);
+}
+
 void check_answers(void) {
     check_c3();
     check_c5();
@@ -198,4 +235,5 @@ void check_answers(void) {
     check_c8();
     check_zero();
     check_windows();
+    check_rests();
 }

@@ -13,6 +13,8 @@ const char *const IDLE_PLAN = "B00103000000000001\nB1000000\nB1010000\nB1020000\
 const char *const WINDOWS = "A0020402\nA103000200020010\nA103000200020008\nA10200040010\nA10200020010\nA202030001\nA20302FFFD\n"
                             "A3000001FFFF\nA3010003FFFF\nA30300000003\n";
 const char *const WINDOWS_PLAN = "B0010400070000000B\nB1000001\nB1010004\nB1020000\nB1030003\n";
+const char *const RESTS = "A0020300\nA1040002000800080020\nA103000200080020\nA10200020020\nA40302\n";
+const char *const RESTS_PLAN = "B0010300070000000F\nB1000000\nB1010004\nB1020001\n";
 
 static const char *present;
 static long compared, unlike, passed, failed;
@@ -82,6 +84,9 @@ size_t file_of(const plain *batch, uint8_t *file) {
     for (i = 0; i < 24; i++)
         if (batch->lined[i])
             out += sprintf(out, "A3%02X%04X%04X\n", i, batch->earliest[i], batch->latest[i]);
+    for (i = 0; i < 16; i++)
+        if (batch->rests[i] != 0)
+            out += sprintf(out, "A4%02X%02X\n", i, batch->rests[i]);
     return (size_t)(out - (char *)file);
 }
 
@@ -106,6 +111,11 @@ void give_window(plain *batch, int job, int earliest, int latest) {
     batch->lined[job] = 1;
     batch->earliest[job] = earliest;
     batch->latest[job] = latest;
+}
+
+void give_rest(plain *batch, int station, int ticks) {
+    batch->edition = 2;
+    batch->rests[station] = ticks;
 }
 
 void fill(room *memory, int byte) {

@@ -325,6 +325,60 @@ static void check_ends(void) {
     same(record.batch.windows[1].lined, 0x8000);
 }
 
+static void check_rests(void) {
+    planner_record record;
+    int s;
+    begin("each of the 16 rests: its limit, and none in edition 1");
+    for (s = 0; s < PLANNER_STATIONS; s++) {
+        record = searching();
+        record.batch.edition = 2;
+        record.batch.rests[s] = PLANNER_REST;
+        same_sound(&record);
+        record.batch.rests[s] = PLANNER_REST + 1;
+        same_unsound(&record);
+        record.batch.rests[s] = 0xFF;
+        same_unsound(&record);
+        record.batch.edition = 1;
+        record.batch.rests[s] = 1;
+        same_unsound(&record);
+        record.batch.rests[s] = 0;
+        same_sound(&record);
+    }
+    begin("rests widen the list of clashes: 16 without, 18 with one tick, 30 with seven; another station's does not");
+    record = searching();
+    record.batch.edition = 2;
+    record.path[0].clash = 16;
+    same_unsound(&record);
+    record.batch.rests[1] = 7;
+    same_unsound(&record);
+    record.batch.rests[0] = 1;
+    same_sound(&record);
+    record.path[0].clash = 18;
+    same_unsound(&record);
+    record.batch.rests[0] = 7;
+    record.path[0].clash = 29;
+    same_sound(&record);
+    record.path[0].clash = 30;
+    same_unsound(&record);
+}
+
+/* The rests decide what a run comes to, and stand in the batch text. */
+static void check_rested(void) {
+    static const char due[] = "A0020200\nA1010001\nA103000100020002\nA40002\nA40F07\n";
+    planner_record record;
+    uint8_t text[ROOM];
+    begin("a rest set by the header's names: C3 with station 0 resting 2 ticks");
+    same(open_text(C3, &record), 0);
+    record.batch.edition = 2;
+    record.batch.rests[0] = 2;
+    record.batch.rests[15] = 7;
+    same_answer(run(&record, 1000), PLANNER_PLAN, 0, 4, 11);
+    same(record.starts[0], 3);
+    same(record.starts[1], 0);
+    same((long)planner_write_batch(&record, text, sizeof text).length, (long)strlen(due));
+    same_bytes(text, due, strlen(due));
+}
+
 void check_fields(void) {
     check_total();
     check_best();
@@ -335,4 +389,6 @@ void check_fields(void) {
     check_edition();
     check_windows();
     check_ends();
+    check_rests();
+    check_rested();
 }

@@ -64,6 +64,25 @@ static void check_windows(void) {
     same(judged(WINDOWS, "B0010400080000000B\nB1000002\nB1010005\nB1020001\nB1030004\n"), PLANNER_REFUSAL_INVALID);
 }
 
+/* Two jobs of one tick on a station that rests 3 ticks; a job whose own ticks are closer; and examples/laminator.batch. */
+static void check_rests(void) {
+    static const char TWO[] = "A0020200\nA1010001\nA1010001\nA40003\n";
+    begin("rests: held ticks of two jobs as far apart as the rest are 19, a tick further they pass");
+    same(judged(TWO, "B00102000500000000\nB1000000\nB1010004\n"), 0);
+    same(judged(TWO, "B00102000500000000\nB1000004\nB1010000\n"), 0);
+    same(judged(TWO, "B00102000400000000\nB1000000\nB1010003\n"), PLANNER_REFUSAL_INVALID);
+    same(judged(TWO, "B00102000400000000\nB1000003\nB1010000\n"), PLANNER_REFUSAL_INVALID);
+    same(judged(TWO, "B00102000100000000\nB1000000\nB1010000\n"), PLANNER_REFUSAL_INVALID);
+    same(judged(TWO, "B00102FFFF00000000\nB100FFFA\nB101FFFE\n"), 0);
+    same(judged(TWO, "B00102FFFF00000000\nB100FFFB\nB101FFFE\n"), PLANNER_REFUSAL_INVALID);
+    same(judged(TWO, "B00202000500000000\nB1000000\nB1010004\n"), PLANNER_REFUSAL_FORM);
+    same(judged("A0020100\nA103000100000001\nA40007\n", "B00101000300000000\nB1000000\n"), 0);
+    same(judged("A0020200\nA1010001\nA1010002\nA40007\nA40107\n", "B00102000100000000\nB1000000\nB1010000\n"), 0);
+    same(judged(RESTS, RESTS_PLAN), 0);
+    same(judged(RESTS, "B00103000600000000\nB1000000\nB1010003\nB1020001\n"), PLANNER_REFUSAL_INVALID);
+    same(judged(RESTS, "B00103000500000000\nB1000000\nB1010002\nB1020001\n"), PLANNER_REFUSAL_INVALID);
+}
+
 static void check_form(void) {
     begin("17: texts that are not one B0 line with 01 and then only B1 lines, each of its length");
     same(PLANNER_REFUSAL_FORM, 17);
@@ -128,14 +147,16 @@ static void check_files(void) {
     plain batch = idle(9, 16, 0);
     char crowd[ROOM];
     int i, a;
-    begin("1 to 10 and 20: the file's refusals, asked before the text's");
+    begin("1 to 10, 20 and 21: the file's refusals, asked before the text's");
     refused_file("A0010\n", PLANNER_REFUSAL_LINE);
     refused_file("A0010100\nA10100\n", PLANNER_REFUSAL_FRAME);
     refused_file("A0030100\nA1010001\n", PLANNER_REFUSAL_EDITION);
     refused_file("A0020100\nA1010001\nA30000020001\n", PLANNER_REFUSAL_WINDOW);
     refused_file("A0020100\nA1010001\n\n", PLANNER_REFUSAL_LINE);
-    refused_file("A0020100\nA1010001\nA40001\n", PLANNER_REFUSAL_FRAME);
+    refused_file("A0020100\nA1010001\nA40008\n", PLANNER_REFUSAL_REST);
+    refused_file("A0020100\nA1010001\nA50001\n", PLANNER_REFUSAL_FRAME);
     refused_file("A0010100\nA1010001\nA30000000001\n", PLANNER_REFUSAL_EXTRA);
+    refused_file("A0010100\nA1010001\nA40001\n", PLANNER_REFUSAL_EXTRA);
     refused_file("A0020201\nA1010001\nA1010002\nA200010005\nA30100000004\n", PLANNER_REFUSAL_DELAYS);
     refused_file("A0010000\n", PLANNER_REFUSAL_COUNT);
     refused_file("A0010201\nA1010001\nA1010002\nA200000001\n", PLANNER_REFUSAL_JOB);
@@ -234,6 +255,7 @@ static void check_written(void) {
 void check_judge(void) {
     check_passing();
     check_windows();
+    check_rests();
     check_form();
     check_jobs();
     check_invalid();

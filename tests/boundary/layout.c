@@ -3,7 +3,8 @@
 #include "check.h"
 #include <string.h>
 
-/* Job k holds stations by 16 different masks; the others hold one station each, so that the clashes stay below 1,024. Two of three jobs have a window. */
+/* Job k holds stations by 16 different masks; the others hold one station each, so that the clashes stay below 1,024. Two of three jobs have a window,
+ * and seven of eight stations a rest. */
 static plain filled(int k) {
     plain batch = idle(24, 0, 128);
     int i, a, d;
@@ -20,6 +21,8 @@ static plain filled(int k) {
     for (i = 0; i < 24; i++)
         if ((i + k) % 3 != 0)
             give_window(&batch, i, PLANNER_EARLIEST - 771 * i - k, 65535 - 97 * i - k);
+    for (i = 0; i < 16; i++)
+        give_rest(&batch, i, (i + k) % 8);
     return batch;
 }
 
@@ -48,6 +51,12 @@ static void same_windows(const planner_batch *got, const plain *due) {
         same(got->windows[i].earliest, due->earliest[i]);
         same(got->windows[i].latest, due->latest[i]);
     }
+}
+
+static void same_rests(const planner_batch *got, const plain *due) {
+    int s;
+    for (s = 0; s < PLANNER_STATIONS; s++)
+        same(got->rests[s], due->rests[s]);
 }
 
 /* All but the batch: no nodes, no best, not ended, an empty path. */
@@ -106,6 +115,11 @@ static void windows(const planner_record *record, const plain *due) {
     same_windows(&record->batch, due);
 }
 
+static void rests(const planner_record *record, const plain *due) {
+    same(record->batch.edition, due->edition);
+    same_rests(&record->batch, due);
+}
+
 static void unsearched(const planner_record *record, const plain *due) {
     (void)due;
     same_unsearched(record);
@@ -136,6 +150,7 @@ static void check_types(void) {
     same(record.batch.windows[PLANNER_JOBS - 1].lined, 0xFFFF);
     same(record.batch.windows[PLANNER_JOBS - 1].earliest, 0xFFFF);
     same(record.batch.windows[PLANNER_JOBS - 1].latest, 0xFFFF);
+    same(record.batch.rests[PLANNER_STATIONS - 1], 0xFF);
     same(record.path[PLANNER_TURNS - 1].clash, 0xFFFF);
     same(record.path[PLANNER_TURNS - 1].side, 0xFFFF);
     same(answer.kind, 0xFF);
@@ -156,13 +171,14 @@ static void check_padding(void) {
     same(SIZE(planner_job, ticks) + SIZE(planner_job, masks), (long)sizeof(planner_job));
     same(SIZE(planner_window, lined) + SIZE(planner_window, earliest) + SIZE(planner_window, latest), (long)sizeof(planner_window));
     same(SIZE(planner_batch, n) + SIZE(planner_batch, m) + SIZE(planner_batch, edition) + SIZE(planner_batch, jobs) + SIZE(planner_batch, delays) +
-             SIZE(planner_batch, windows), (long)sizeof(planner_batch));
+             SIZE(planner_batch, windows) + SIZE(planner_batch, rests), (long)sizeof(planner_batch));
     same(SIZE(planner_turn, clash) + SIZE(planner_turn, side), (long)sizeof(planner_turn));
     same(SIZE(planner_record, total) + SIZE(planner_record, latency) + SIZE(planner_record, found) + SIZE(planner_record, ended) +
              SIZE(planner_record, starts) + SIZE(planner_record, batch) + SIZE(planner_record, path), (long)sizeof(planner_record));
     same(SIZE(planner_batch, jobs), PLANNER_JOBS * (long)sizeof(planner_job));
     same(SIZE(planner_batch, delays), PLANNER_DELAYS * (long)sizeof(planner_delay));
     same(SIZE(planner_batch, windows), PLANNER_JOBS * (long)sizeof(planner_window));
+    same(SIZE(planner_batch, rests), PLANNER_STATIONS);
     same(SIZE(planner_record, path), PLANNER_TURNS * (long)sizeof(planner_turn));
 }
 
@@ -179,24 +195,70 @@ static void check_offsets(void) {
     same(offsetof(planner_window, lined), 0);
     same(offsetof(planner_window, earliest), 2);
     same(offsetof(planner_window, latest), 4);
-    same((long)sizeof(planner_batch), 1476);
+    same((long)sizeof(planner_batch), 1492);
     same(offsetof(planner_batch, n), 0);
     same(offsetof(planner_batch, m), 1);
     same(offsetof(planner_batch, edition), 2);
     same(offsetof(planner_batch, jobs), 4);
     same(offsetof(planner_batch, delays), 820);
     same(offsetof(planner_batch, windows), 1332);
+    same(offsetof(planner_batch, rests), 1476);
     same((long)sizeof(planner_turn), 4);
     same(offsetof(planner_turn, clash), 0);
     same(offsetof(planner_turn, side), 2);
-    same((long)sizeof(planner_record), 5628);
+    same((long)sizeof(planner_record), 5644);
     same(offsetof(planner_record, total), 0);
     same(offsetof(planner_record, latency), 4);
     same(offsetof(planner_record, found), 6);
     same(offsetof(planner_record, ended), 7);
     same(offsetof(planner_record, starts), 8);
     same(offsetof(planner_record, batch), 56);
-    same(offsetof(planner_record, path), 1532);
+    same(offsetof(planner_record, path), 1548);
+}
+
+/* Rests of all stations, of one, and none: each of the 16 places by the header's name. */
+static void check_rests(void) {
+    plain batch;
+    int k;
+    begin("a file with rests: each of the 16 by the header's names, with a line and without");
+    for (k = 0; k < 24; k++) {
+        batch = filled(k);
+        opened(&batch, 0, rests);
+    }
+    for (k = 0; k < PLANNER_STATIONS; k++) {
+        batch = idle(2, 3, 1);
+        give_rest(&batch, k, 1 + k % PLANNER_REST);
+        opened(&batch, 0, rests);
+    }
+    for (k = 0; k < PLANNER_STATIONS; k++)
+        give_rest(&batch, k, PLANNER_REST - k % PLANNER_REST);
+    opened(&batch, 0, rests);
+    batch = idle(2, 3, 1);
+    opened(&batch, 0, rests);
+}
+
+/* A refused file leaves the record as it was, to the byte, wherever it is refused. */
+static void check_refused(void) {
+    plain batch = idle(2, 3, 1);
+    begin("a refused file leaves the record as it was, to the byte, wherever it is refused");
+    batch.weight[0] = 1001;
+    opened(&batch, PLANNER_REFUSAL_WEIGHT, NULL);
+    batch = filled(3);
+    batch.from[127] = 24;
+    opened(&batch, PLANNER_REFUSAL_JOB, NULL);
+    batch = filled(4);
+    give_window(&batch, 23, PLANNER_EARLIEST + 1, 65535);
+    opened(&batch, PLANNER_REFUSAL_WINDOW, NULL);
+    batch = filled(5);
+    give_rest(&batch, 15, PLANNER_REST + 1);
+    opened(&batch, PLANNER_REFUSAL_REST, NULL);
+    batch = filled(5);
+    batch.edition = 3;
+    opened(&batch, PLANNER_REFUSAL_EDITION, NULL);
+    batch.edition = 1;
+    opened(&batch, PLANNER_REFUSAL_EXTRA, NULL);
+    batch = idle(0, 1, 0);
+    opened(&batch, PLANNER_REFUSAL_COUNT, NULL);
 }
 
 void check_layout(void) {
@@ -235,20 +297,6 @@ void check_layout(void) {
     give_window(&batch, 0, 3, 7);
     opened(&batch, 0, jobs);
     opened(&batch, 0, windows);
-    begin("a refused file leaves the record as it was, to the byte, wherever it is refused");
-    batch.weight[0] = 1001;
-    opened(&batch, PLANNER_REFUSAL_WEIGHT, NULL);
-    batch = filled(3);
-    batch.from[127] = 24;
-    opened(&batch, PLANNER_REFUSAL_JOB, NULL);
-    batch = filled(4);
-    give_window(&batch, 23, PLANNER_EARLIEST + 1, 65535);
-    opened(&batch, PLANNER_REFUSAL_WINDOW, NULL);
-    batch = filled(5);
-    batch.edition = 3;
-    opened(&batch, PLANNER_REFUSAL_EDITION, NULL);
-    batch.edition = 1;
-    opened(&batch, PLANNER_REFUSAL_EXTRA, NULL);
-    batch = idle(0, 1, 0);
-    opened(&batch, PLANNER_REFUSAL_COUNT, NULL);
+    check_rests();
+    check_refused();
 }

@@ -80,6 +80,62 @@ static void check_turns(void) {
     same(opening(&batch, &record), PLANNER_REFUSAL_CLASHES);
 }
 
+/* 12 jobs of one tick, and two of 10 ticks and more on another station; both stations rest 7 ticks: 1,024 clashes with 11 ticks in the last job, one
+ * more with 12. */
+static plain resting(int last) {
+    plain batch = idle(14, 1, 0);
+    int i, a;
+    batch.ticks[12] = 10;
+    batch.ticks[13] = last;
+    for (i = 0; i < 14; i++)
+        for (a = 0; a < batch.ticks[i]; a++)
+            batch.masks[i][a] = i < 12 ? 1 : 2;
+    give_rest(&batch, 0, PLANNER_REST);
+    give_rest(&batch, 1, PLANNER_REST);
+    return batch;
+}
+
+static void check_resting_turns(void) {
+    planner_record record;
+    plain batch = resting(11);
+    begin("PLANNER_TURNS with rests: 1,024 clashes, and a turn on the last one; 1,025 clashes");
+    same(opening(&batch, &record), 0);
+    record.path[0].clash = PLANNER_TURNS - 1;
+    same_answer(run(&record, 0), PLANNER_SPENT, 0, 0, 0);
+    record.path[0].clash = PLANNER_TURNS;
+    same_answer(run(&record, 0), PLANNER_REFUSED, PLANNER_REFUSAL_RECORD, 0, 0);
+    batch = resting(12);
+    same(opening(&batch, &record), PLANNER_REFUSAL_CLASHES);
+    give_rest(&batch, 1, PLANNER_REST - 1);
+    same(opening(&batch, &record), 0);
+    record.batch.rests[1] = PLANNER_REST;
+    same_answer(run(&record, 0), PLANNER_REFUSED, PLANNER_REFUSAL_RECORD, 0, 0);
+    record.batch.rests[0] = PLANNER_REST - 1;
+    same_answer(run(&record, 0), PLANNER_SPENT, 0, 0, 0);
+}
+
+static void check_rest(void) {
+    planner_record record;
+    plain batch;
+    int s;
+    begin("PLANNER_STATIONS and PLANNER_REST: stations 0 to 15, 1 to 7 ticks");
+    same(PLANNER_STATIONS, 16);
+    for (s = 0; s < PLANNER_STATIONS; s++) {
+        batch = idle(2, 1, 0);
+        give_rest(&batch, s, 1);
+        same(opening(&batch, &record), 0);
+        same(record.batch.rests[s], 1);
+        give_rest(&batch, s, PLANNER_REST);
+        same(opening(&batch, &record), 0);
+        same(record.batch.rests[s], 7);
+        give_rest(&batch, s, PLANNER_REST + 1);
+        same(opening(&batch, &record), PLANNER_REFUSAL_REST);
+    }
+    same(open_text("A0020100\nA1010001\nA40F07\n", &record), 0);
+    same(open_text("A0020100\nA1010001\nA41007\n", &record), PLANNER_REFUSAL_REST);
+    same(open_text("A0020100\nA1010001\nA40F00\n", &record), PLANNER_REFUSAL_REST);
+}
+
 static void check_earliest(void) {
     planner_record record;
     plain batch = idle(2, 1, 0);
@@ -178,6 +234,8 @@ void check_limits(void) {
     check_counts();
     check_weights();
     check_turns();
+    check_resting_turns();
+    check_rest();
     check_earliest();
     check_latest_start();
     check_best();

@@ -1,4 +1,4 @@
-/* Each refusal 1 to 16 and 20 provoked and compared with its name, and what a refused call leaves. judge.c has 17 to 19. */
+/* Each refusal 1 to 16, 20 and 21 provoked and compared with its name, and what a refused call leaves. judge.c has 17 to 19. */
 #include "check.h"
 #include <string.h>
 
@@ -35,7 +35,7 @@ static void check_further(void) {
     refused_further("1: an empty further line", "\n", PLANNER_REFUSAL_LINE, 1);
     refused_further("1: a further line without 0A", "A30000000001", PLANNER_REFUSAL_LINE, 1);
     refused_further("1: a further line in lower case", "a30000000001\n", PLANNER_REFUSAL_LINE, 1);
-    refused_further("2: kind A4, which is not known", "A40001\n", PLANNER_REFUSAL_FRAME, 2);
+    refused_further("2: kind A5, which is not known", "A505020001\n", PLANNER_REFUSAL_FRAME, 2);
     refused_further("2: kind FF, which is not known", "FF0000000001\n", PLANNER_REFUSAL_FRAME, 2);
     refused_further("2: a delay after the last one", "A200010001\n", PLANNER_REFUSAL_FRAME, 2);
     refused_further("2: a kind that falls", "A30000000001\nA200010001\n", PLANNER_REFUSAL_FRAME, 2);
@@ -53,6 +53,28 @@ static void check_further(void) {
     refused_file("10: a delay past a latest start", "A0020201\nA1010001\nA1010002\nA200010005\nA30100000004\n", PLANNER_REFUSAL_DELAYS, 10);
 }
 
+static void check_rests(void) {
+    refused_further("1: a rest without 0A", "A40001", PLANNER_REFUSAL_LINE, 1);
+    refused_further("1: a rest in lower case", "a40001\n", PLANNER_REFUSAL_LINE, 1);
+    refused_further("2: a rest of 2 bytes, of station 16", "A410\n", PLANNER_REFUSAL_FRAME, 2);
+    refused_further("2: a rest of 4 bytes, of no ticks", "A4000000\n", PLANNER_REFUSAL_FRAME, 2);
+    refused_further("2: a window behind a rest", "A40001\nA30000000001\n", PLANNER_REFUSAL_FRAME, 2);
+    refused_further("2: a delay behind a rest", "A40001\nA200010001\n", PLANNER_REFUSAL_FRAME, 2);
+    refused_further("2: kind A5 behind a rest", "A40001\nA505020001\n", PLANNER_REFUSAL_FRAME, 2);
+    refused_further("20 in a window before 21 in a rest", "A30000020001\nA41001\n", PLANNER_REFUSAL_WINDOW, 20);
+    refused_further("21: a rest of station 16", "A41001\n", PLANNER_REFUSAL_REST, 21);
+    refused_further("21: a rest of station 255", "A4FF01\n", PLANNER_REFUSAL_REST, 21);
+    refused_further("21: two rests of one station", "A40001\nA40001\n", PLANNER_REFUSAL_REST, 21);
+    refused_further("21: rests of stations that fall", "A30100000001\nA40101\nA40001\n", PLANNER_REFUSAL_REST, 21);
+    refused_further("21: rest 0", "A40000\n", PLANNER_REFUSAL_REST, 21);
+    refused_further("21: rest 8", "A40008\n", PLANNER_REFUSAL_REST, 21);
+    refused_further("21: rest 255", "A400FF\n", PLANNER_REFUSAL_REST, 21);
+    refused_further("21 in one line before 1 in the next", "A40000\nG\n", PLANNER_REFUSAL_REST, 21);
+    refused_file("8: a rest in edition 01", "A0010100\nA1010001\nA40001\n", PLANNER_REFUSAL_EXTRA, 8);
+    refused_file("21 before 10", "A0020202\nA1010001\nA1010002\nA200010001\nA201000000\nA40000\n", PLANNER_REFUSAL_REST, 21);
+    refused_file("10 with a rest", "A0020202\nA1010001\nA1010002\nA200010001\nA201000000\nA40007\n", PLANNER_REFUSAL_DELAYS, 10);
+}
+
 static void check_clashes(void) {
     plain batch = idle(9, 16, 0);
     planner_record record;
@@ -64,6 +86,13 @@ static void check_clashes(void) {
         for (a = 0; a < 16; a++)
             batch.masks[i][a] = 1;
     same(PLANNER_REFUSAL_CLASHES, 9);
+    same(planner_open(file, file_of(&batch, file), &record), PLANNER_REFUSAL_CLASHES);
+    same_fill(&record, 0xA5, sizeof record);
+    begin("9: 13 jobs of one mask 0001 that rests 7 ticks, 1,170 clashes");
+    batch = idle(13, 1, 0);
+    for (i = 0; i < 13; i++)
+        batch.masks[i][0] = 1;
+    give_rest(&batch, 0, 7);
     same(planner_open(file, file_of(&batch, file), &record), PLANNER_REFUSAL_CLASHES);
     same_fill(&record, 0xA5, sizeof record);
 }
@@ -143,6 +172,7 @@ static void check_writing(void) {
 void check_refusals(void) {
     check_opening();
     check_further();
+    check_rests();
     check_clashes();
     check_running();
     check_writing();

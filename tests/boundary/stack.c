@@ -89,7 +89,7 @@ static long call_takes(void *(*call)(void *)) {
     return more;
 }
 
-/* A batch at the limits of jobs, ticks, delays and windows. The windows say nothing that the delays do not. The delays are a chain of all jobs, so that each round but the last raises a start; no job holds
+/* A batch at the limits of jobs, ticks, delays, windows and rests. The windows say nothing that the delays do not. The delays are a chain of all jobs, so that each round but the last raises a start; no job holds
  * a station. With a ring, the last job is 229 ticks after the first at most and 230 at least, so that every round raises a start and none are least. */
 static plain chain(int ring) {
     plain batch = idle(PLANNER_JOBS, PLANNER_TICKS, PLANNER_DELAYS);
@@ -101,6 +101,8 @@ static plain chain(int ring) {
     }
     for (k = 0; k < PLANNER_JOBS; k++)
         give_window(&batch, k, k, 60000);
+    for (k = 0; k < PLANNER_STATIONS; k++)
+        give_rest(&batch, k, PLANNER_REST);
     if (ring) {
         batch.from[0] = PLANNER_JOBS - 1;
         batch.to[0] = 0;

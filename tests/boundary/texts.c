@@ -78,6 +78,27 @@ static void check_windows(void) {
     }
 }
 
+/* Rests come back byte for byte, behind windows and without them. */
+static void check_rests(void) {
+    static const char *const files[3] = {"A0020100\nA1010001\nA40001\n", "A0020200\nA1010001\nA1010002\nA3010000FFFF\nA40007\nA40F03\n",
+                                         "A0020100\nA1010001\nA40001\nA40102\nA40203\nA40304\nA40405\nA40506\nA40607\nA40701\nA40802\n"
+                                         "A40903\nA40A04\nA40B05\nA40C06\nA40D07\nA40E01\nA40F02\n"};
+    planner_record record;
+    int k;
+    begin("rests: both texts");
+    same(open_text(RESTS, &record), 0);
+    same_string(planner_write_batch, &record, RESTS);
+    same(run(&record, 15).kind, PLANNER_PLAN);
+    same_string(planner_write_plan, &record, RESTS_PLAN);
+    same_string(planner_write_batch, &record, RESTS);
+    for (k = 0; k < 3; k++) {
+        same(open_text(files[k], &record), 0);
+        same_string(planner_write_batch, &record, files[k]);
+        same(run(&record, 1).kind, PLANNER_PLAN);
+        same_string(planner_write_batch, &record, files[k]);
+    }
+}
+
 /* 24 jobs, each 978 to 1,000 ticks after the one before: a line of 19 bytes and 24 of 9. They hold nothing, so that the latency is the last
  * start, 22,747. */
 static void check_longest_plan(void) {
@@ -113,9 +134,11 @@ static void check_longest_batch(void) {
     planner_record record;
     uint8_t file[ROOM];
     int k;
-    begin("PLANNER_BATCH_TEXT: the batch text of 24 jobs of 16 ticks, 128 delays and 24 windows");
-    for (k = 0; k < 16; k++)
+    begin("PLANNER_BATCH_TEXT: the batch text of 24 jobs of 16 ticks, 128 delays, 24 windows and 16 rests");
+    for (k = 0; k < 16; k++) {
         batch.masks[k][k] = 0x8421 + k;
+        give_rest(&batch, k, 1);
+    }
     for (k = 0; k < 128; k++)
         batch.weight[k] = 1000 - 15 * k;
     for (k = 0; k < 24; k++)
@@ -128,6 +151,7 @@ static void check_longest_batch(void) {
 void check_texts(void) {
     check_short();
     check_windows();
+    check_rests();
     check_longest_plan();
     check_longest_batch();
 }

@@ -1,13 +1,13 @@
-//! Opening a batch file of edition 01 or 02, with refusals 1 to 10 and 20.
+//! Opening a batch file of edition 01 or 02, with refusals 1 to 10, 20 and 21.
 
 use crate::starts::{least_starts, Ends, Table};
-use crate::{clashes, Batch, Delay, Job, Refusal, Search, Window, CLASHES, DELAYS, JOBS, TICKS};
+use crate::{clashes, Batch, Delay, Job, Refusal, Search, Window, CLASHES, DELAYS, JOBS, STATIONS, TICKS};
 
 /// Reads a batch file and gives a fresh search for it.
 pub fn open(mut file: &[u8]) -> Result<Search, Refusal> {
     let mut batch = read_batch(&mut file)?;
     refuse_if(8, batch.edition == 1 && !file.is_empty())?;
-    read_windows(&mut batch, file)?;
+    read_further(&mut batch, file)?;
     refuse_if(9, clashes(&batch).len() > CLASHES)?;
     let mut table = Table::new(batch.jobs().len());
     table.fill(batch.delays());
@@ -22,7 +22,7 @@ fn read_batch(file: &mut &[u8]) -> Result<Batch, Refusal> {
     let (edition, n, m) = (header[1], header[2], header[3]);
     refuse_if(4, n == 0 || n as usize > JOBS || m as usize > DELAYS)?;
     let (jobs, delays, windows) = ([Job::default(); JOBS], [Delay::default(); DELAYS], [Window::OPEN; JOBS]);
-    let mut batch = Batch { n, m, edition, jobs, delays, windows };
+    let mut batch = Batch { n, m, edition, jobs, delays, windows, rests: [0; STATIONS] };
     for job in &mut batch.jobs[..n.into()] {
         *job = read_job(&next_line(file)?)?;
     }
@@ -50,18 +50,41 @@ fn read_delay(line: &[u8], n: u8) -> Result<Delay, Refusal> {
     Ok(delay)
 }
 
-/// The lines after the delays, all of kind A3, jobs rising.
-fn read_windows(batch: &mut Batch, mut file: &[u8]) -> Result<(), Refusal> {
-    let mut least = 0;
+/// The lines after the delays: windows, jobs rising, and then rests, stations rising.
+fn read_further(batch: &mut Batch, mut file: &[u8]) -> Result<(), Refusal> {
+    let (mut kind, mut least) = (0xA3, 0);
     while !file.is_empty() {
         let line = next_line(&mut file)?;
-        refuse_if(2, line[0] != 0xA3 || line.len() != 6)?;
-        let (job, earliest, latest) = (line[1], u16::from_be_bytes([line[2], line[3]]), u16::from_be_bytes([line[4], line[5]]));
-        refuse_if(20, job >= batch.n || job < least || earliest > 20_000 || earliest > latest)?;
-        least = job + 1;
-        batch.windows[usize::from(job)] = Window { lined: true, earliest, latest };
+        refuse_if(2, line[0] < kind)?;
+        if line[0] > kind {
+            (kind, least) = (line[0], 0);
+        }
+        let number = match kind {
+            0xA3 => read_window(batch, &line, least)?,
+            0xA4 => read_rest(batch, &line, least)?,
+            _ => return Err(Refusal(2)),
+        };
+        least = number + 1;
     }
     Ok(())
+}
+
+/// Takes in the window of a job from `least` on, which it gives.
+fn read_window(batch: &mut Batch, line: &[u8], least: u8) -> Result<u8, Refusal> {
+    refuse_if(2, line.len() != 6)?;
+    let (job, earliest, latest) = (line[1], u16::from_be_bytes([line[2], line[3]]), u16::from_be_bytes([line[4], line[5]]));
+    refuse_if(20, job >= batch.n || job < least || earliest > 20_000 || earliest > latest)?;
+    batch.windows[usize::from(job)] = Window { lined: true, earliest, latest };
+    Ok(job)
+}
+
+/// Takes in the rest of a station from `least` on, which it gives.
+fn read_rest(batch: &mut Batch, line: &[u8], least: u8) -> Result<u8, Refusal> {
+    refuse_if(2, line.len() != 3)?;
+    let (station, rest) = (line[1], line[2]);
+    refuse_if(21, usize::from(station) >= STATIONS || station < least || !(1..=7).contains(&rest))?;
+    batch.rests[usize::from(station)] = rest;
+    Ok(station)
 }
 
 /// Takes the next line off the file and gives its bytes, at least one.

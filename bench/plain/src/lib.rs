@@ -14,6 +14,7 @@ pub use search::Answer;
 pub const JOBS: usize = 24;
 pub const DELAYS: usize = 128;
 pub const TICKS: usize = 16;
+pub const STATIONS: usize = 16;
 pub const CLASHES: usize = 1024;
 
 /// The number of a refusal.
@@ -63,6 +64,8 @@ pub struct Batch {
     pub jobs: [Job; JOBS],
     pub delays: [Delay; DELAYS],
     pub windows: [Window; JOBS],
+    /// The rest of each station: different jobs hold it in ticks that are more than so many apart. 0 without a line.
+    pub rests: [u8; STATIONS],
 }
 
 impl Batch {
@@ -121,7 +124,8 @@ impl Search {
     }
 }
 
-/// Two jobs hold one station in one tick exactly when `second` starts `distance` ticks after `first`, for some listed clash.
+/// Two jobs hold one station in ticks no further apart than its rest exactly when `second` starts `distance` ticks after `first`, for some
+/// listed clash.
 #[derive(Clone, Copy, Debug, PartialEq, Eq)]
 pub struct Clash {
     pub first: u8,
@@ -129,29 +133,46 @@ pub struct Clash {
     pub distance: i8,
 }
 
+/// The largest distance of two held ticks, the longest rest, and the largest distance of a clash.
+const BETWEEN: usize = TICKS - 1;
+const REST: usize = 7;
+const FARTHEST: usize = BETWEEN + REST;
+
 /// The clash list, by first job, second job and distance.
 pub fn clashes(batch: &Batch) -> Vec<Clash> {
-    let jobs = batch.jobs();
+    let (jobs, resting) = (batch.jobs(), resting(&batch.rests));
     let mut list = Vec::with_capacity(CLASHES);
     for (i, first) in jobs.iter().enumerate() {
         for (j, second) in jobs.iter().enumerate().skip(i + 1) {
-            for (distance, _) in (-15..).zip(apart(first, second)).filter(|(_, met)| *met) {
+            let mut met = resting.iter().fold(0, |met, (rest, stations)| met | widened(apart(first, second, *stations), *rest));
+            while met != 0 {
+                let distance = met.trailing_zeros() as i8 - FARTHEST as i8;
                 list.push(Clash { first: i as u8, second: j as u8, distance });
+                met &= met - 1;
             }
         }
     }
     list
 }
 
-/// For each distance from -15 to 15, whether the jobs hold a station together at it.
-fn apart(first: &Job, second: &Job) -> [bool; 2 * TICKS - 1] {
-    let mut met = [false; 2 * TICKS - 1];
+/// Each rest that stations have, 0 too, with the mask of these stations.
+fn resting(rests: &[u8; STATIONS]) -> Vec<(usize, u16)> {
+    let stations = |rest| rests.iter().rev().fold(0, |mask, other| mask << 1 | u16::from(usize::from(*other) == rest));
+    (0..=REST).map(|rest| (rest, stations(rest))).filter(|(_, mask)| *mask != 0).collect()
+}
+
+/// The distances at which the jobs hold one of these stations in the same tick: bit d + BETWEEN for distance d.
+fn apart(first: &Job, second: &Job, stations: u16) -> u64 {
+    let mut met = 0;
     for (a, x) in first.masks[..first.ticks.into()].iter().enumerate() {
         for (b, y) in second.masks[..second.ticks.into()].iter().enumerate() {
-            if x & y != 0 {
-                met[TICKS - 1 + a - b] = true;
-            }
+            met |= u64::from(x & y & stations != 0) << (BETWEEN + a - b);
         }
     }
     met
+}
+
+/// The distances no further than a rest from these: bit d + FARTHEST for distance d.
+fn widened(met: u64, rest: usize) -> u64 {
+    (0..2 * rest).fold(met << (REST - rest), |met, _| met | met << 1)
 }

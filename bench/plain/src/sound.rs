@@ -29,6 +29,7 @@ fn within_limits(batch: &Batch) -> bool {
             .iter()
             .all(|delay| delay.from < batch.n && delay.to < batch.n && delay.from != delay.to && (-1000..=1000).contains(&delay.weight))
         && windows_within_limits(batch)
+        && rests_within_limits(batch)
 }
 
 fn windows_within_limits(batch: &Batch) -> bool {
@@ -38,6 +39,11 @@ fn windows_within_limits(batch: &Batch) -> bool {
         2 => batch.windows().iter().all(|window| if window.lined { lined(window) } else { *window == Window::OPEN }),
         _ => false,
     }
+}
+
+fn rests_within_limits(batch: &Batch) -> bool {
+    let most = if batch.edition == 1 { 0 } else { 7 };
+    batch.rests.iter().all(|rest| *rest <= most)
 }
 
 fn can_be_met(batch: &Batch) -> bool {

@@ -1,4 +1,4 @@
-//! A batch as the record holds it and a caller reads it: jobs, delays and windows, in the C layout.
+//! A batch as the record holds it and a caller reads it: jobs, delays and windows in the C layout, and rests.
 use std::fmt;
 
 /// A delay: job `to` starts at least `weight` ticks after job `from`.
@@ -81,4 +81,13 @@ impl fmt::Debug for Window {
             .field("latest", &self.latest())
             .finish()
     }
+}
+
+/// A station's rest: different jobs hold it in ticks that are more than `ticks` apart. A job's own ticks need no rest between them.
+#[derive(Clone, Copy, Debug, PartialEq, Eq, Hash)]
+pub struct Rest {
+    /// The station, 0 to 15.
+    pub station: u8,
+    /// The ticks, 1 to 7.
+    pub ticks: u8,
 }

@@ -21,8 +21,9 @@
 //! # Ok::<(), planner::Refusal>(())
 //! ```
 //!
-//! A batch file of edition 02 may give jobs a [`Window`], an earliest and a latest start; a plan with a start outside is not valid. A plan text,
-//! wherever it comes from, is judged beside its batch file by [`judge`].
+//! A batch file of edition 02 may give jobs a [`Window`], an earliest and a latest start, and stations a [`Rest`]; a plan with a start outside its
+//! window is not valid, and neither is one in which two jobs hold a station in ticks that are no further apart than its rest. A plan text, wherever
+//! it comes from, is judged beside its batch file by [`judge`].
 //!
 //! # Linking
 //!
@@ -37,16 +38,20 @@ mod ffi;
 mod misuse;
 mod refusal;
 
-pub use batch::{Delay, Job, Window};
+pub use batch::{Delay, Job, Rest, Window};
 pub use refusal::Refusal;
 use std::fmt;
 
 /// The version of the library that this crate calls. It rises whenever the record's layout, a number's meaning or a call changes, and when a call is added.
-pub const VERSION: u32 = 4;
+pub const VERSION: u32 = 5;
 /// The most jobs of a batch.
 pub const JOBS: usize = 24;
+/// The stations, numbered 0 to 15.
+pub const STATIONS: usize = 16;
 /// The largest earliest start of a job.
 pub const EARLIEST: u16 = 20_000;
+/// The longest rest of a station, in ticks.
+pub const REST: u8 = 7;
 /// The most nodes of one run.
 pub const BUDGET: u32 = 1_000_000;
 /// The most nodes of a search, all runs together.
@@ -54,7 +59,7 @@ pub const TOTAL: u32 = 100_000_000;
 /// The length of the longest plan text in bytes.
 pub const PLAN_TEXT: usize = 235;
 /// The length of the longest batch text in bytes.
-pub const BATCH_TEXT: usize = 3385;
+pub const BATCH_TEXT: usize = 3497;
 
 /// What a run came to. `total` is the number of nodes visited since the search was opened.
 #[must_use = "the answer says whether the search goes on"]
@@ -109,7 +114,7 @@ impl fmt::Debug for Plan {
     }
 }
 
-/// The search for a batch's shortest plan: 5,628 bytes of plain data, to be kept between runs, cloned or sent to another thread.
+/// The search for a batch's shortest plan: 5,644 bytes of plain data, to be kept between runs, cloned or sent to another thread.
 #[derive(Clone, PartialEq, Eq)]
 pub struct Search {
     record: ffi::Record,
@@ -127,8 +132,8 @@ impl Search {
     ///
     /// Refusals 1 [`Line`](Refusal::Line), 2 [`Frame`](Refusal::Frame), 3 [`Edition`](Refusal::Edition), 4 [`Count`](Refusal::Count),
     /// 5 [`Job`](Refusal::Job), 6 [`Weight`](Refusal::Weight), 7 [`Missing`](Refusal::Missing), 8 [`Extra`](Refusal::Extra),
-    /// 9 [`Clashes`](Refusal::Clashes), 10 [`Delays`](Refusal::Delays) and 20 [`Window`](Refusal::Window). They are asked line by line, in a line 7
-    /// first and then 1 to 6 and 20; after the last line 8, 9 and 10. The first whose condition holds is given.
+    /// 9 [`Clashes`](Refusal::Clashes), 10 [`Delays`](Refusal::Delays), 20 [`Window`](Refusal::Window) and 21 [`Rest`](Refusal::Rest). They are asked
+    /// line by line, in a line 7 first and then 1 to 6, 20 and 21; after the last line 8, 9 and 10. The first whose condition holds is given.
     pub fn open(file: &[u8]) -> Result<Search, Refusal> {
         assert_version();
         let mut record = ffi::Record::blank();
@@ -236,6 +241,20 @@ impl Search {
         &self.record.batch.windows[..usize::from(self.record.batch.n)]
     }
 
+    /// The rests of the stations that have one, in the order of the batch file, stations rising.
+    ///
+    /// ```
+    /// use planner::{Rest, Search};
+    /// let search = Search::open(b"A0020100\nA1010008\nA40302\nA40F07\n")?;
+    /// assert!(search.rests().eq([Rest { station: 3, ticks: 2 }, Rest { station: 15, ticks: 7 }]));
+    /// # Ok::<(), planner::Refusal>(())
+    /// ```
+    #[must_use]
+    pub fn rests(&self) -> impl Iterator<Item = Rest> + '_ {
+        let all = (0..).zip(self.record.batch.rests).map(|(station, ticks)| Rest { station, ticks });
+        all.filter(|rest| rest.ticks != 0)
+    }
+
     /// Writes the plan text into the buffer's first bytes and gives their number; the rest of the buffer is left.
     ///
     /// # Errors
@@ -313,8 +332,8 @@ impl fmt::Debug for Search {
 ///
 /// # Errors
 ///
-/// First the file's refusals 1 to 10 and 20, as [`Search::open`] gives them; then, in this order, 17 [`Form`](Refusal::Form), asked of the whole text,
-/// 18 [`Order`](Refusal::Order) and 19 [`Invalid`](Refusal::Invalid).
+/// First the file's refusals 1 to 10, 20 and 21, as [`Search::open`] gives them; then, in this order, 17 [`Form`](Refusal::Form), asked of the whole
+/// text, 18 [`Order`](Refusal::Order) and 19 [`Invalid`](Refusal::Invalid).
 pub fn judge(file: &[u8], text: &[u8]) -> Result<(), Refusal> {
     assert_version();
     // SAFETY: each pointer is valid for its length and not null, also where the slice is empty; both are only read.
@@ -324,7 +343,7 @@ pub fn judge(file: &[u8], text: &[u8]) -> Result<(), Refusal> {
 /// Asks the library for its version. Who calls this refers to a name that an archive of another version has not.
 fn assert_version() {
     // SAFETY: the call takes nothing and touches no memory.
-    let version = unsafe { ffi::planner_version_4() };
+    let version = unsafe { ffi::planner_version_5() };
     assert_eq!(version, VERSION, "the library has another version than its function's name says");
 }
 
@@ -333,7 +352,7 @@ fn accepted(number: u8) -> Result<(), Refusal> {
     match Refusal::from_number(number) {
         Some(refusal) => Err(refusal),
         None => {
-            assert_eq!(number, 0, "the library has refusals 1 to 20");
+            assert_eq!(number, 0, "the library has refusals 1 to 21");
             Ok(())
         }
     }
@@ -388,5 +407,26 @@ mod tests {
         assert_eq!(search.batch_text().unwrap(), b"A0020200\nA1010001\nA103000100020002\nA30000000000\n");
         let mut last = changed(2, window(1, EARLIEST, 65535));
         assert_eq!(last.run(1), Ok(Answer::Plan { latency: EARLIEST + 1, total: 1 }));
+    }
+
+    /// Rests that no file has, and one that comes to a search from elsewhere.
+    #[test]
+    fn rests_from_elsewhere() {
+        let fresh = Search::open(b"A0010200\nA1010001\nA103000100020002\n").unwrap();
+        let changed = |edition: u16, station: usize, ticks: u8| {
+            let mut search = fresh.clone();
+            search.record.batch.edition = edition;
+            search.record.batch.rests[station] = ticks;
+            search
+        };
+        for mut search in [changed(1, 0, 1), changed(1, 15, 7), changed(2, 0, REST + 1), changed(2, 15, REST + 1), changed(2, 7, 255)] {
+            let given: Vec<Rest> = search.rests().collect();
+            assert_eq!((search.run(1), search.batch_text()), (Err(Refusal::Record), Err(Refusal::Record)), "{given:?}");
+        }
+        let mut search = changed(2, 0, 1);
+        assert_eq!(search.run(100), Ok(Answer::Plan { latency: 3, total: 7 }));
+        assert_eq!(search.best().unwrap().starts(), [2, 0]);
+        assert_eq!(search.batch_text().unwrap(), b"A0020200\nA1010001\nA103000100020002\nA40001\n");
+        assert_eq!(changed(2, STATIONS - 1, REST).run(3), Ok(Answer::Plan { latency: 3, total: 3 }));
     }
 }

@@ -1,4 +1,4 @@
-//! What sends a call back: the twenty refusals by number, name and words.
+//! What sends a call back: the twenty-one refusals by number, name and words.
 use std::error::Error;
 use std::fmt;
 
@@ -6,8 +6,8 @@ macro_rules! refusals {
     ($($number:literal $name:ident $words:literal)*) => {
         /// Why a call was refused. A refused call changes nothing.
         ///
-        /// Opening gives 1 to 10 and 20, running 11 to 14, writing 12, 15 and 16, judging 1 to 10 and 17 to 20. A [`Search`](crate::Search) is always
-        /// sound and its starts always have room, so 12 and 13 never come from the calls of this crate; they are here because the library's
+        /// Opening gives 1 to 10, 20 and 21, running 11 to 14, writing 12, 15 and 16, judging 1 to 10 and 17 to 21. A [`Search`](crate::Search) is
+        /// always sound and its starts always have room, so 12 and 13 never come from the calls of this crate; they are here because the library's
         /// numbers have them.
         #[derive(Clone, Copy, Debug, PartialEq, Eq, Hash, PartialOrd, Ord)]
         #[repr(u8)]
@@ -17,7 +17,7 @@ macro_rules! refusals {
 
         impl Refusal {
             /// Every refusal, in the order of their numbers.
-            pub const ALL: [Refusal; 20] = [$(Refusal::$name,)*];
+            pub const ALL: [Refusal; 21] = [$(Refusal::$name,)*];
 
             /// The refusal's condition in words.
             #[must_use]
@@ -51,16 +51,17 @@ refusals! {
     18 Order "the plan text's n is not the batch's, or its job lines are not jobs 0 to n - 1 in order"
     19 Invalid "the plan is not valid, or its latency is wrong"
     20 Window "a window's job is of n or above or not above the window's before, or its earliest start is above 20,000 or above its latest"
+    21 Rest "a rest's station is above 15 or not above the rest's before, or its ticks are outside 1 to 7"
 }
 
 impl Refusal {
-    /// The refusal's number, 1 to 20.
+    /// The refusal's number, 1 to 21.
     #[must_use]
     pub fn number(self) -> u8 {
         self as u8
     }
 
-    /// The refusal with this number; none outside 1 to 20.
+    /// The refusal with this number; none outside 1 to 21.
     #[must_use]
     pub fn from_number(number: u8) -> Option<Refusal> {
         Refusal::ALL.get(usize::from(number).checked_sub(1)?).copied()

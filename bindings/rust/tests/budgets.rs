@@ -84,27 +84,48 @@ fn examples() {
         accepted += 1;
     }
     println!("{accepted} example files in small budgets and in large ones, {refused} refused");
-    assert!(accepted >= 6 && refused >= 1, "the examples are not there");
+    assert!(accepted >= 7 && refused >= 1, "the examples are not there");
 }
 
-/// The README's worked example comes out as printed there.
+/// The README's lines of a kind, `A` of a batch or `B` of a plan text, that have remarks, without these; each with the example that is named last before.
+fn remarked(readme: &str, kind: char) -> Vec<(&str, &str)> {
+    let (mut example, mut found) = ("", Vec::new());
+    for line in readme.lines() {
+        if let Some((_, after)) = line.split_once("examples/") {
+            example = after.split_once(".batch").map_or(example, |(name, _)| name);
+        }
+        let frame = line.strip_prefix("    ").filter(|frame| frame.starts_with(kind)).and_then(|frame| frame.split_once("  "));
+        found.extend(frame.filter(|(text, _)| text.bytes().all(|byte| byte.is_ascii_hexdigit())).map(|(text, _)| (example, text)));
+    }
+    found
+}
+
+/// The README's worked examples come out as printed there.
 #[test]
-fn worked_example() {
+fn worked_examples() {
     let readme = std::fs::read_to_string(repository("README.md")).unwrap();
-    let lines = readme.lines().filter(|line| line.starts_with("    B0") || line.starts_with("    B1"));
-    let remarked = lines.filter_map(|line| line.trim().split_once(' '));
-    let due: String = remarked.map(|(text, _)| text.to_string() + "\n").collect();
-    let fresh = Search::open(&std::fs::read(repository("examples/wedding.batch")).unwrap()).unwrap();
-    let (search, _) = driven(&fresh, || 2);
-    assert_eq!(String::from_utf8(search.plan_text().unwrap()).unwrap(), due);
+    let (batches, texts) = (remarked(&readme, 'A'), remarked(&readme, 'B'));
+    let lines = |all: &[(&str, &str)], name: &str| -> String {
+        all.iter().filter(|one| one.0 == name).map(|one| one.1.to_string() + "\n").collect()
+    };
+    let mut names: Vec<&str> = batches.iter().chain(&texts).map(|(name, _)| *name).collect();
+    names.dedup();
+    for name in &names {
+        let file = std::fs::read_to_string(repository(&format!("examples/{name}.batch"))).unwrap();
+        assert_eq!(lines(&batches, name), file);
+        let (search, _) = driven(&Search::open(file.as_bytes()).unwrap(), || 2);
+        assert_eq!(String::from_utf8(search.plan_text().unwrap()).unwrap(), lines(&texts, name));
+    }
+    println!("worked examples: {names:?}");
+    assert!(names.contains(&"wedding"), "the README has no worked example");
 }
 
 #[test]
 fn random_batches() {
     let mut random = Random::new(2);
     let (mut plans, mut none, mut left_out, mut nodes) = (0, 0, 0, 0u64);
-    for k in 0..1200 {
-        let file = if k < 600 { random.batch(6) } else { random.windowed(6) }.file();
+    for k in 0..1800 {
+        let file = [Random::batch, Random::windowed, Random::rested][k / 600](&mut random, 6).file();
         let ends_soon = |mut probe: Search| !matches!(probe.run(2000), Ok(Answer::Spent { .. }));
         if !Search::open(&file).is_ok_and(ends_soon) {
             left_out += 1;

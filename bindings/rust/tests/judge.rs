@@ -95,8 +95,9 @@ fn refusals() {
 fn refused_files() {
     let crowd = Batch { jobs: vec![vec![1; 16]; 9], ..Batch::default() }.file();
     let late: [&[u8]; 2] = [b"A0020100\nA1010001\nA30000020001\n", b"A0020201\nA1010001\nA1010002\nA200010005\nA30100000004\n"];
-    let files: [&[u8]; 9] = [b"", b"A0010\n", b"A0010000\n", b"A0010100\nA1010001\n\n", C3_PLAN, &crowd, &C3[..34], late[0], late[1]];
-    for file in files {
+    let rests: [&[u8]; 2] = [b"A0020100\nA1010001\nA41001\n", b"A0020100\nA1010001\nA40001\nA30000000001\n"];
+    let files: [&[u8]; 7] = [b"", b"A0010\n", b"A0010000\n", b"A0010100\nA1010001\n\n", C3_PLAN, &crowd, &C3[..34]];
+    for file in files.into_iter().chain(late).chain(rests) {
         let refusal = Search::open(file).expect_err("a refused file");
         for text in [b"", C3_PLAN, file] {
             assert_eq!(judge(file, text), Err(refusal));
@@ -110,6 +111,7 @@ fn plans_of_searches() {
     let mut files: Vec<Vec<u8>> = batch_files("examples").into_iter().map(|(_, file)| file).collect();
     files.extend((0..600).map(|_| random.batch(6).file()));
     files.extend((0..600).map(|_| random.windowed(6).file()));
+    files.extend((0..600).map(|_| random.rested(6).file()));
     let (mut plans, mut none) = (0, 0);
     for file in files {
         let Some(mut search) = searched(&file, &mut random) else { continue };
@@ -131,8 +133,8 @@ fn plans_of_searches() {
 fn random_starts() {
     let mut random = Random::new(7);
     let mut seen = BTreeMap::new();
-    for k in 0..9000 {
-        let batch = if k < 6000 { random.batch(4) } else { random.windowed(4) };
+    for k in 0..12000 {
+        let batch = [Random::batch, Random::batch, Random::windowed, Random::rested][k / 3000](&mut random, 4);
         if Search::open(&batch.file()).is_err() {
             continue;
         }

@@ -55,4 +55,6 @@ fn shows_what_is_used() {
     let search = Search::open(b"A0020200\nA1010001\nA1010002\nA30100050009\n").unwrap();
     let due = "[Window { has_line: false, earliest: 0, latest: 65535 }, Window { has_line: true, earliest: 5, latest: 9 }]";
     assert_eq!(format!("{:?}", search.windows()), due);
+    let search = Search::open(b"A0020100\nA1010001\nA40302\n").unwrap();
+    assert_eq!(format!("{:?}", search.rests().collect::<Vec<_>>()), "[Rest { station: 3, ticks: 2 }]");
 }

@@ -1,6 +1,6 @@
 // Setting one place of a record. A field goes by its number: 0 n, 1 m, 2 ticks of job A, 3 mask B of job A, 4 from, 5 to and 6 weight
 // of delay A, 7 clash and 8 side of the path's place A, 9 best, 10 place A of best's starts, 11 total, 12 ended, 13 edition, 14 whether job A has a line,
-// 15 its earliest and 16 its latest start.
+// 15 its earliest and 16 its latest start, 17 the rest of station A.
 use crate::weight::weight_of;
 use model::Batch;
 use model::Best;
@@ -24,6 +24,7 @@ fn firsts(field: usize) -> u64 {
         2 | 3 | 10 | 14..=16 => 24,
         4 | 5 | 6 => 128,
         7 | 8 => 1024,
+        17 => 16,
         _ => ANY,
     }
 }
@@ -36,7 +37,7 @@ fn seconds(field: usize) -> u64 {
 // How many values the field holds; none where there is no such field.
 fn values(field: usize) -> u64 {
     match field {
-        0 | 1 | 4 | 5 => 256,
+        0 | 1 | 4 | 5 | 17 => 256,
         2 | 3 | 6 | 7 | 8 | 10 | 13..=16 => 65536,
         9 => 65537,
         11 => ANY,
@@ -49,7 +50,7 @@ fn values(field: usize) -> u64 {
 pub fn set(search: Search, field: usize, a: usize, b: usize, value: u64) -> Search {
     let mut next = search;
     match field {
-        0..=6 | 13..=16 => {
+        0..=6 | 13..=17 => {
             let batch = search.batch;
             let changed = set_batch(batch, field, a, b, value);
             next.batch = changed;
@@ -96,6 +97,11 @@ fn set_batch(batch: Batch, field: usize, a: usize, b: usize, value: u64) -> Batc
                 let window = batch.windows[a];
                 let changed = set_window(window, field, value);
                 next.windows[a] = changed;
+            }
+        }
+        17 => {
+            if a < 16 {
+                next.rests[a] = (value % 256) as u8;
             }
         }
         2 | 3 => {

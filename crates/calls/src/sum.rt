@@ -34,9 +34,11 @@ fn sum_batch(sum: u64, batch: Batch) -> u64 {
     let jobs = batch.jobs;
     let delays = batch.delays;
     let windows = batch.windows;
+    let rests = batch.rests;
     let counts = summed(summed(sum, of_byte(batch.n)), of_byte(batch.m));
     let edition = summed(counts, of_pair(batch.edition));
-    sum_windows(sum_delays(sum_jobs(edition, jobs), delays), windows)
+    let lists = sum_delays(sum_jobs(edition, jobs), delays);
+    sum_rests(sum_windows(lists, windows), rests)
 }
 
 fn sum_jobs(sum: u64, jobs: [Job; 24]) -> u64 {
@@ -79,6 +81,16 @@ fn sum_windows(sum: u64, windows: [Window; 24]) -> u64 {
             of_pair(window.earliest),
         );
         next = summed(ends, of_pair(window.latest));
+        i += 1;
+    }
+    next
+}
+
+fn sum_rests(sum: u64, rests: [u8; 16]) -> u64 {
+    let mut next = sum;
+    let mut i: usize = 0;
+    while i < 16 {
+        next = summed(next, of_byte(rests[i]));
         i += 1;
     }
     next

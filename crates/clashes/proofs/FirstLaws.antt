@@ -36,9 +36,9 @@ eqZ-sum p q a b = go (ℕ-discrete (p + b) (q + a))
         ∙ sym (decide (eqZ (subℕ p q) (subℕ a b)) λ t. e (omega (arith, sub-sum p q a b (eqZ-eq (subℕ p q) (subℕ a b) t))))
 
 -- t_j − t_i = d for the clash of code x, without the integers; t and u are the starts of j and i
-pub code-met : (ts : List ℕ) (x y t u : ℕ) → y ≡ x → t ≡ getD ts (y / 32 % 32) 0 → u ≡ getD ts (y / 1024) 0 → eqb (t + 15) (u + y % 32) ≡ met ts (clashOf x)
+pub code-met : (ts : List ℕ) (x y t u : ℕ) → y ≡ x → t ≡ getD ts (y / 64 % 32) 0 → u ≡ getD ts (y / 2048) 0 → eqb (t + 22) (u + y % 64) ≡ met ts (clashOf x)
 unfolding met clashOf start
-code-met ts x y t u e p q = rw (p, q, e) (eqZ-sum (getD ts (x / 32 % 32) 0) (getD ts (x / 1024) 0) (x % 32) 15)
+code-met ts x y t u e p q = rw (p, q, e) (eqZ-sum (getD ts (x / 64 % 32) 0) (getD ts (x / 2048) 0) (x % 64) 22)
 
 -- the first clash is met, or it is not
 met-now : (c : Clash) (cs : List Clash) (ts : List ℕ) (k : ℕ) → met ts c ≡ true → firstMet (c ∷ cs) ts k ≡ some k

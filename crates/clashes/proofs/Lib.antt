@@ -2,6 +2,7 @@
 pub mod SeqLaws
 pub mod MaskLaws
 pub mod TableLaws
+pub mod RestLaws
 pub mod CodeLaws
 pub mod StoreLaws
 pub mod PairLaws

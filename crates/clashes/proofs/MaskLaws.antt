@@ -1,7 +1,7 @@
 -- Two masks share a station exactly when their bitwise and is not 0.
 use mathlib.Core.Path.{_≡_, sym, _∙_}
 use mathlib.Core.Logic.{_≢_}
-use mathlib.Core.Bool.{true, not}
+use mathlib.Core.Bool.{true, not, _&&_}
 use Prim.Native.Nat.{ℕ, zero, suc, _/_, _%_, _^_, _<_, min, suc-le-suc}
 use native.Mathlib.Omega.{arith}
 use native.Mathlib.Decide.{ℕ-discrete}
@@ -9,10 +9,24 @@ use lib.Dec.{eqb}
 use lib.Bits.{bitAnd, and-step, and-zero-l}
 use borrow.Author.Tests.{eq-eqb, ne-eqb}
 use Rattle.model.specs.Batch.{bit}
-use Rattle.model.specs.Clash.{meet}
-use Rattle.model.proofs.BoolLaws.{decide}
+use Rattle.model.specs.Common.{count}
+use Rattle.model.proofs.BoolLaws.{decide, both, and}
+use Rattle.model.proofs.ListLaws.{any-some, some-any, count-some, some-count}
 use Rattle.model.proofs.BitLaws.{bit-zero, zero-bit, bit-suc}
-use Rattle.model.proofs.ClashLaws.{meet-some, some-meet}
+use Rattle.clashes.specs.Tables.{shares}
+
+-- masks that share a station have one in common
+pub shares-some : (m m′ : ℕ) → shares m m′ ≡ true → (s : ℕ) × (s < 16) × (bit m s ≡ true) × (bit m′ s ≡ true)
+unfolding shares
+shares-some m m′ e =
+    let s = any-some (λ s. bit m s && bit m′ s) (count 0 16) e in
+    let h = both (bit m (s .0)) (bit m′ (s .0)) (s .2) in
+    (s .0, omega (arith, count-some 0 16 (s .0) (s .1) .1), h .0, h .1)
+
+-- and back
+pub some-shares : (m m′ s : ℕ) → s < 16 → bit m s ≡ true → bit m′ s ≡ true → shares m m′ ≡ true
+unfolding shares
+some-shares m m′ s h p q = some-any (λ s. bit m s && bit m′ s) (count 0 16) (some-count 0 16 s (omega arith) (omega arith)) (and p q)
 
 -- a bit in both is a bit of the and
 both-and : (s m k : ℕ) → bit m s ≡ true → bit k s ≡ true → bitAnd m k ≢ 0
@@ -35,13 +49,13 @@ and-both (suc n) m k h ne = side (ℕ-discrete (bitAnd (m / 2) (k / 2)) 0) (λ f
         (suc (r .0), suc-le-suc (r .1), bit-suc m (r .0) ∙ r .2, bit-suc k (r .0) ∙ r .3)
 
 -- the test of two masks
-pub meet-and : (m k : ℕ) → m < 65_536 → not (eqb (bitAnd m k) 0) ≡ meet m k
-meet-and m k h = go (ℕ-discrete (bitAnd m k) 0)
+pub shares-and : (m k : ℕ) → m < 65_536 → not (eqb (bitAnd m k) 0) ≡ shares m k
+shares-and m k h = go (ℕ-discrete (bitAnd m k) 0)
   where
-    go : Dec (bitAnd m k ≡ 0) → not (eqb (bitAnd m k) 0) ≡ meet m k
+    go : Dec (bitAnd m k ≡ 0) → not (eqb (bitAnd m k) 0) ≡ shares m k
     go (yes e) =
         rw (eq-eqb (bitAnd m k) 0 e)
-        (sym (decide (meet m k) λ t. let r = meet-some m k t in both-and (r .0) m k (r .2) (r .3) e))
+        (sym (decide (shares m k) λ t. let r = shares-some m k t in both-and (r .0) m k (r .2) (r .3) e))
     go (no e) =
         let r = and-both 16 m k h e in
-        rw (ne-eqb (bitAnd m k) 0 e) (sym (some-meet m k (r .0) (r .1) (r .2) (r .3)))
+        rw (ne-eqb (bitAnd m k) 0 e) (sym (some-shares m k (r .0) (r .1) (r .2) (r .3)))

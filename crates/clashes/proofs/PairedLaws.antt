@@ -24,9 +24,9 @@ or-right : (a b s : ℕ) → b / 2 ^ s % 2 ≡ 1 → bitOr a b / 2 ^ s % 2 ≡ 1
 or-right a b s h = rw (or-shr a b s) (omega (arith, or-step (a / 2 ^ s) (b / 2 ^ s)))
 
 -- the bit of a distance, as the code sets it
-bit-set : (d : ℕ) → d < 31 → 2 * 2 ^ d % 2 ^ 32 / 2 ^ (d + 1) % 2 ≡ 1
+bit-set : (d : ℕ) → d < 45 → 2 * 2 ^ d % 2 ^ 64 / 2 ^ (d + 1) % 2 ≡ 1
 bit-set d h =
-    let e : 2 * 2 ^ d % 2 ^ 32 ≡ 2 * 2 ^ d = shl-exact 2 d 32 (omega arith) (omega arith) in
+    let e : 2 * 2 ^ d % 2 ^ 64 ≡ 2 * 2 ^ d = shl-exact 2 d 64 (omega arith) (omega arith) in
     rw (e, add-one, ← pow-succ' 2 d, div-self (pow-pos (suc d)))
 
 -- ---- the pairs of the first k codes, while they are read
@@ -66,7 +66,7 @@ pub record Opened (codes pair held end : List ℕ) (pairs last bits k : ℕ) : T
   pub of-jobs : OfJobs pair pairs
   pub some : 0 < pairs
   pub pair-last : getD pair (pairs - 1) 0 ≡ last
-  pub of-last : getD codes k 0 / 32 ≡ last
+  pub of-last : getD codes k 0 / 64 ≡ last
   pub within : (q : ℕ) → q < pairs - 1 → getD end q 0 ≤ k
   pub each : (q c : ℕ) → q < pairs - 1 → c < getD end q 0 → (r : ℕ) × ((r ≤ q) × In codes pair held c r)
   pub before : (c : ℕ) → c < k → (r : ℕ) × ((r ≤ pairs - 1) × In codes pair (set held (pairs - 1) bits) c r)
@@ -87,12 +87,12 @@ in-more codes pair held c r p y z h i = go (ℕ-discrete r p)
           near = i .near;
           has =
               rw (e, getD-set-same held p (bitOr y z) 0 h)
-              (or-left y z (getD codes c 0 % 32 + 1) (rw (e, getD-set-same held p y 0 h) at (i .has)));
+              (or-left y z (getD codes c 0 % 64 + 1) (rw (e, getD-set-same held p y 0 h) at (i .has)));
         }
 
 module _ (codes pair held end : List ℕ) (pairs last bits k : ℕ) (g : Pairing codes pair held end pairs last bits k) where
   -- it is of the last pair already
-  pub open-same : {pair′ : List ℕ} {pairs′ last′ bits′ : ℕ} → Named (getD codes k 0) → getD codes k 0 / 32 ≡ last
+  pub open-same : {pair′ : List ℕ} {pairs′ last′ bits′ : ℕ} → Named (getD codes k 0) → getD codes k 0 / 64 ≡ last
       → pair′ ≡ pair → pairs′ ≡ pairs → last′ ≡ last → bits′ ≡ bits → Opened codes pair′ held end pairs′ last′ bits′ k
   open-same j e p n l b =
       let h : 0 < pairs = go (decLt 0 pairs) in
@@ -129,7 +129,7 @@ module _ (codes pair held end : List ℕ) (pairs last bits k : ℕ) (g : Pairing
 
   -- it is of a pair of its own
   pub open-new : {pair′ : List ℕ} {pairs′ last′ bits′ : ℕ} → Named (getD codes k 0) → pairs ≢ 276
-      → pair′ ≡ set pair pairs (getD codes k 0 / 32) → pairs′ ≡ pairs + 1 → last′ ≡ getD codes k 0 / 32 → bits′ ≡ 0
+      → pair′ ≡ set pair pairs (getD codes k 0 / 64) → pairs′ ≡ pairs + 1 → last′ ≡ getD codes k 0 / 64 → bits′ ≡ 0
       → Opened codes pair′ held end pairs′ last′ bits′ k
   open-new j ne p n l b =
       rw (p, n, l, b)
@@ -145,32 +145,32 @@ module _ (codes pair held end : List ℕ) (pairs last bits k : ℕ) (g : Pairing
         before = λ c lt. rw e (earlier c lt (decLt 0 pairs));
       })
     where
-      new : getD (set pair pairs (getD codes k 0 / 32)) pairs 0 ≡ getD codes k 0 / 32
-      new = getD-set-same pair pairs (getD codes k 0 / 32) 0 (omega (arith, g .room .of-pair, g .of-jobs .few))
+      new : getD (set pair pairs (getD codes k 0 / 64)) pairs 0 ≡ getD codes k 0 / 64
+      new = getD-set-same pair pairs (getD codes k 0 / 64) 0 (omega (arith, g .room .of-pair, g .of-jobs .few))
 
-      old : (q : ℕ) → q < pairs → getD (set pair pairs (getD codes k 0 / 32)) q 0 ≡ getD pair q 0
-      old q h = getD-set-other pair pairs q (getD codes k 0 / 32) 0 (omega arith)
+      old : (q : ℕ) → q < pairs → getD (set pair pairs (getD codes k 0 / 64)) q 0 ≡ getD pair q 0
+      old q h = getD-set-other pair pairs q (getD codes k 0 / 64) 0 (omega arith)
 
-      jobs : (q : ℕ) → q < pairs + 1 → (getD (set pair pairs (getD codes k 0 / 32)) q 0 / 32 < 24) × (getD (set pair pairs (getD codes k 0 / 32)) q 0 % 32 < 24)
+      jobs : (q : ℕ) → q < pairs + 1 → (getD (set pair pairs (getD codes k 0 / 64)) q 0 / 32 < 24) × (getD (set pair pairs (getD codes k 0 / 64)) q 0 % 32 < 24)
       jobs q h = side (ℕ-discrete q pairs)
         where
-          side : Dec (q ≡ pairs) → (getD (set pair pairs (getD codes k 0 / 32)) q 0 / 32 < 24) × (getD (set pair pairs (getD codes k 0 / 32)) q 0 % 32 < 24)
+          side : Dec (q ≡ pairs) → (getD (set pair pairs (getD codes k 0 / 64)) q 0 / 32 < 24) × (getD (set pair pairs (getD codes k 0 / 64)) q 0 % 32 < 24)
           side (yes e) = rw (e, new) (omega (arith, j .first), j .second)
           side (no e) = rw (old q (omega arith)) (g .of-jobs .first q (omega arith), g .of-jobs .second q (omega arith))
 
       older : (q : ℕ) → q < pairs → (c : ℕ) → (r : ℕ) × ((r ≤ q) × In codes pair held c r)
-          → (r : ℕ) × ((r ≤ q) × In codes (set pair pairs (getD codes k 0 / 32)) held c r)
+          → (r : ℕ) × ((r ≤ q) × In codes (set pair pairs (getD codes k 0 / 64)) held c r)
       older q h c (r, (le, i)) = (r, (le, record { same = rw (old r (omega arith)) (i .same); near = i .near; has = i .has }))
 
-      earlier : (c : ℕ) → c < k → Dec (0 < pairs) → (r : ℕ) × ((r ≤ pairs) × In codes (set pair pairs (getD codes k 0 / 32)) (set held pairs 0) c r)
+      earlier : (c : ℕ) → c < k → Dec (0 < pairs) → (r : ℕ) × ((r ≤ pairs) × In codes (set pair pairs (getD codes k 0 / 64)) (set held pairs 0) c r)
       earlier c lt (no h) = absurd (let z = g .none (omega arith) in omega (arith, z .0))
       earlier c lt (yes h) =
           let o = older (pairs - 1) (omega arith) c (g .each (pairs - 1) c (omega arith) (omega (arith, g .end-last h))) in
-          (o .0, (omega (arith, o .1 .0), in-other codes (set pair pairs (getD codes k 0 / 32)) held c (o .0) pairs 0 (omega (arith, o .1 .0)) (o .1 .1)))
+          (o .0, (omega (arith, o .1 .0), in-other codes (set pair pairs (getD codes k 0 / 64)) held c (o .0) pairs 0 (omega (arith, o .1 .0)) (o .1 .1)))
 
 -- its bit is stored, and it is counted
-pub stored : (codes pair held end : List ℕ) (pairs last bits k z : ℕ) → Opened codes pair held end pairs last bits k → getD codes k 0 % 32 < 31
-    → z ≡ 2 * 2 ^ (getD codes k 0 % 32) % 2 ^ 32
+pub stored : (codes pair held end : List ℕ) (pairs last bits k z : ℕ) → Opened codes pair held end pairs last bits k → getD codes k 0 % 64 < 45
+    → z ≡ 2 * 2 ^ (getD codes k 0 % 64) % 2 ^ 64
     → Pairing codes pair (set held (pairs - 1) (bitOr bits z)) (set end (pairs - 1) (k + 1)) pairs last (bitOr bits z) (k + 1)
 stored codes pair held end pairs last bits k z o near e =
     record {
@@ -206,7 +206,7 @@ stored codes pair held end pairs last bits k z o near e =
           near = near;
           has =
               rw (getD-set-same held (pairs - 1) (bitOr bits z) 0 place)
-              (or-right bits z (getD codes k 0 % 32 + 1) (rw e (bit-set (getD codes k 0 % 32) near)));
+              (or-right bits z (getD codes k 0 % 64 + 1) (rw e (bit-set (getD codes k 0 % 64) near)));
         }
 
     up-to : (c : ℕ) → Dec (c ≡ k) → c < k + 1 → (r : ℕ) × ((r ≤ pairs - 1) × In codes pair (set held (pairs - 1) (bitOr bits z)) c r)

@@ -16,26 +16,26 @@ use Rattle.clashes.specs.First.{Unmet}
 use Rattle.clashes.specs.Pairs.{bitOf, In, Paired, NoneMet}
 use Rattle.clashes.proofs.FirstLaws.{code-met, unmet-none}
 
--- the bit that is asked is one of 32
-pub bit-small : (at later earlier : ℕ) → at ≡ bitOf later earlier → at < 32
+-- the bit that is asked is one of 64
+pub bit-small : (at later earlier : ℕ) → at ≡ bitOf later earlier → at < 64
 unfolding bitOf if_then_else_
-bit-small at later earlier e = go (decLt 31 (later - earlier))
+bit-small at later earlier e = go (decLt 63 (later - earlier))
   where
-    go : Dec (31 < later - earlier) → at < 32
-    go (yes h) = rw (e, lt-ltb 31 (later - earlier) h) (omega arith)
-    go (no h) = rw (e, le-ltb 31 (later - earlier) (omega arith)) (omega arith)
+    go : Dec (63 < later - earlier) → at < 64
+    go (yes h) = rw (e, lt-ltb 63 (later - earlier) h) (omega arith)
+    go (no h) = rw (e, le-ltb 63 (later - earlier) (omega arith)) (omega arith)
 
 -- starts that meet a code of pair q have its bit: x is the pair, t and u are the starts of j and i, and at is the bit asked
-pub not-in : (codes pair held ts : List ℕ) (c q x t u at : ℕ) → x ≡ getD pair q 0 → t ≡ getD ts (x % 32) 0 → u ≡ getD ts (x / 32) 0 → at ≡ bitOf (t + 16) u
+pub not-in : (codes pair held ts : List ℕ) (c q x t u at : ℕ) → x ≡ getD pair q 0 → t ≡ getD ts (x % 32) 0 → u ≡ getD ts (x / 32) 0 → at ≡ bitOf (t + 23) u
     → getD held q 0 / 2 ^ at % 2 ≢ 1 → In codes pair held c q → met ts (clashOf (getD codes c 0)) ≡ false
 unfolding bitOf if_then_else_
 not-in codes pair held ts c q x t u at ex et eu ea ne i = decide (met ts (clashOf (getD codes c 0))) λ m.
     let y = getD codes c 0 in
-    let j : y / 32 % 32 ≡ x % 32 = rw (i .same, ex) refl in
-    let l : y / 1024 ≡ x / 32 = omega (arith, i .same) in
-    let s : t + 15 ≡ u + y % 32 = eqb-true (t + 15) (u + y % 32) (code-met ts y y t u refl (rw j et) (rw l eu) ∙ m) in
-    let d : t + 16 - u ≡ y % 32 + 1 = omega arith in
-    let a : at ≡ y % 32 + 1 = ea ∙ rw (d, le-ltb 31 (y % 32 + 1) (omega (arith, i .near))) in
+    let j : y / 64 % 32 ≡ x % 32 = rw (i .same, ex) refl in
+    let l : y / 2048 ≡ x / 32 = omega (arith, i .same) in
+    let s : t + 22 ≡ u + y % 64 = eqb-true (t + 22) (u + y % 64) (code-met ts y y t u refl (rw j et) (rw l eu) ∙ m) in
+    let d : t + 23 - u ≡ y % 64 + 1 = omega arith in
+    let a : at ≡ y % 64 + 1 = ea ∙ rw (d, le-ltb 63 (y % 64 + 1) (omega (arith, i .near))) in
     ne (rw a (i .has))
 
 -- the starts meet no code of the pairs before q, and none of the first low
@@ -56,7 +56,7 @@ module _ (pair held end : List ℕ) (pairs : ℕ) (ts : List ℕ) where
 
   -- one pair more, which has not the bit of its starts
   pub passed-more : (q low x t u at low′ : ℕ) → Passing pair held end pairs ts q low → q < pairs → x ≡ getD pair q 0 → t ≡ getD ts (x % 32) 0 → u ≡ getD ts (x / 32) 0
-      → at ≡ bitOf (t + 16) u → getD held q 0 / 2 ^ at % 2 ≢ 1 → low′ ≡ getD end q 0 → Passing pair held end pairs ts (q + 1) low′
+      → at ≡ bitOf (t + 23) u → getD held q 0 / 2 ^ at % 2 ≢ 1 → low′ ≡ getD end q 0 → Passing pair held end pairs ts (q + 1) low′
   passed-more q low x t u at low′ g h ex et eu ea ne el codes n p =
       record {
         none = record { each = λ c m. let i = p .each q c h (omega arith) in clear c (i .0) (omega (arith, i .1 .0)) (i .1 .1) (ℕ-discrete (i .0) q) };

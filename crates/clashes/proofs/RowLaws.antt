@@ -7,15 +7,21 @@ use lib.ListN.{length, getD, replicate, length-map}
 use Rattle.model.specs.declared.Job.{Job}
 use Rattle.model.specs.declared.Batch.{Batch}
 use Rattle.model.specs.Common.{count, joined}
-use Rattle.model.specs.Batch.{jobOf, blankJob, ticks}
+use Rattle.model.specs.Batch.{jobOf, blankJob, ticks, restOf}
 use Rattle.model.specs.Clash.{Clash, clashesOf, clashes}
 use Rattle.model.proofs.SeqLaws.{getD-same}
 use Rattle.clashes.specs.declared.Clashes.{Clashes}
 use Rattle.clashes.specs.Code.{codeOf}
+use Rattle.clashes.specs.Rest.{Resting, Longest, Widens}
 use Rattle.clashes.specs.List.{listing, listOf, pairCodes, rowCodes, Grown, Tabled}
 use Rattle.clashes.proofs.StoreLaws.{full, add-empty}
 use Rattle.clashes.proofs.PairLaws.{pair-codes}
 use Rattle.clashes.proofs.GrowLaws.{codesFrom, Growing, grow-more, grow-end}
+
+-- a batch's rests are within their limit
+pub resting : (b : Batch) → Tabled b → Resting (b .rests)
+unfolding restOf
+resting b t = record { each = t .rests }
 
 -- job i as the code reads it
 abbrev pub jobAt : Batch → ℕ → Job
@@ -33,17 +39,21 @@ module _ (b : Batch) (t : Tabled b) (long : length (b .jobs) ≡ 24) where
   job-short i h = rw (job-at i h) (t .short i h)
 
   -- one turn of the loop over j
-  pub row-more : (i : ℕ) (from l m : Clashes) (j : ℕ) → i < b .n → Growing (clashesOf b i) 31 (suc i) (b .n) from l j → j < b .n
-      → Grown l m (pairCodes (jobAt b i) (jobAt b j) (i * 1024 + j * 32)) 31 → Growing (clashesOf b i) 31 (suc i) (b .n) from m (j + 1)
-  row-more i from l m j hi g hj s =
-      let e : pairCodes (jobAt b i) (jobAt b j) (i * 1024 + j * 32) ≡ map codeOf (clashesOf b i j) = rw (job-at i hi, job-at j hj) (pair-codes b i j) in
-      grow-more (clashesOf b i) 31 (suc i) (b .n) from l m j g hj (rw e at s)
+  pub row-more : (i w low end p : ℕ) (places : List ℕ) (from l m : Clashes) (j : ℕ) → i < b .n → Longest (b .rests) w 16
+      → Widens (b .rests) (jobAt b i) (7 - w) (7 + jobAt b i .ticks + w) places → low ≡ 7 - w → p ≡ jobAt b i .ticks → end ≡ 7 + p + w
+      → Growing (clashesOf b i) 45 (suc i) (b .n) from l j → j < b .n
+      → Grown l m (pairCodes low end places (jobAt b j) (i * 2048 + j * 64)) 45 → Growing (clashesOf b i) 45 (suc i) (b .n) from m (j + 1)
+  unfolding ticks
+  row-more i w low end p places from l m j hi longest wide el ep ee g hj s =
+      let wide′ : Widens (b .rests) (jobOf b i) (7 - w) (7 + ticks b i + w) places = rw (job-at i hi) at wide in
+      let e : pairCodes low end places (jobAt b j) (i * 2048 + j * 64) ≡ map codeOf (clashesOf b i j) = rw (el, ee, ep, job-at i hi, job-at j hj) (pair-codes b t w longest places i j hi wide′) in
+      grow-more (clashesOf b i) 45 (suc i) (b .n) from l m j g hj (rw e at s)
 
 -- after the last turn the row is complete
-pub row-end : (b : Batch) → Tabled b → (i : ℕ) (from l : Clashes) (j : ℕ) → Growing (clashesOf b i) 31 (suc i) (b .n) from l j → b .n ≤ j → Grown from l (rowCodes b i) 744
+pub row-end : (b : Batch) → Tabled b → (i : ℕ) (from l : Clashes) (j : ℕ) → Growing (clashesOf b i) 45 (suc i) (b .n) from l j → b .n ≤ j → Grown from l (rowCodes b i) 1080
 unfolding rowCodes codesFrom
 row-end b t i from l j g h =
-    record { all = grow-end (clashesOf b i) 31 (suc i) (b .n) from l j g h; few = omega (arith, g .few, g .within, t .few) }
+    record { all = grow-end (clashesOf b i) 45 (suc i) (b .n) from l j g h; few = omega (arith, g .few, g .within, t .few) }
 
 -- ---- the batch
 
@@ -52,14 +62,14 @@ unfoldable pub rowOf : Batch → ℕ → List Clash
 rowOf b i = joined (clashesOf b i) (count (suc i) (b .n - suc i))
 
 -- one turn of the loop over i
-pub list-more : (b : Batch) (from l m : Clashes) (i : ℕ) → Growing (rowOf b) 744 0 (b .n) from l i → i < b .n → Grown l m (rowCodes b i) 744 → Growing (rowOf b) 744 0 (b .n) from m (i + 1)
+pub list-more : (b : Batch) (from l m : Clashes) (i : ℕ) → Growing (rowOf b) 1080 0 (b .n) from l i → i < b .n → Grown l m (rowCodes b i) 1080 → Growing (rowOf b) 1080 0 (b .n) from m (i + 1)
 unfolding rowCodes rowOf
-list-more b from l m i g h s = grow-more (rowOf b) 744 0 (b .n) from l m i g h s
+list-more b from l m i g h s = grow-more (rowOf b) 1080 0 (b .n) from l m i g h s
 
 -- after the last turn the list is complete
-pub list-end : (b : Batch) (l : Clashes) (i : ℕ) → Growing (rowOf b) 744 0 (b .n) (listing 0 (replicate 1024 0)) l i → b .n ≤ i → l ≡ listOf b
+pub list-end : (b : Batch) (l : Clashes) (i : ℕ) → Growing (rowOf b) 1080 0 (b .n) (listing 0 (replicate 1024 0)) l i → b .n ≤ i → l ≡ listOf b
 unfolding listOf full clashes codesFrom rowOf
 list-end b l i g h =
     let e : b .n - 0 ≡ b .n = omega arith in
-    (rw e at (grow-end (rowOf b) 744 0 (b .n) (listing 0 (replicate 1024 0)) l i g h)) ∙ add-empty (map codeOf (clashes b))
+    (rw e at (grow-end (rowOf b) 1080 0 (b .n) (listing 0 (replicate 1024 0)) l i g h)) ∙ add-empty (map codeOf (clashes b))
     ∙ ap (λ (d : ℕ). listing d (full (map codeOf (clashes b)) .codes)) (length-map (clashes b) codeOf)

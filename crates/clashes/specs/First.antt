@@ -16,8 +16,8 @@ use Rattle.clashes.specs.Code.{clashOf}
 
 -- i and j of a code are jobs
 pub record Named (code : ℕ) : Type 0 where
-  pub first : code / 1024 < mostJobs
-  pub second : code / 32 % 32 < mostJobs
+  pub first : code / 2048 < mostJobs
+  pub second : code / 64 % 32 < mostJobs
 
 -- so are those of the first n codes
 pub record Known (codes : List ℕ) (n : ℕ) : Type 0 where

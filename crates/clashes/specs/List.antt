@@ -9,8 +9,8 @@ use lib.Dec.{ltb}
 use Rattle.model.specs.declared.Job.{Job}
 use Rattle.model.specs.declared.Batch.{Batch}
 use Rattle.model.specs.Common.{if_then_else_, count, keep, joined, pad}
-use Rattle.model.specs.Limits.{mostJobs, mostTicks, mostClashes}
-use Rattle.model.specs.Batch.{ticks}
+use Rattle.model.specs.Limits.{mostJobs, mostTicks, stations, mostRest, mostClashes}
+use Rattle.model.specs.Batch.{ticks, restOf}
 use Rattle.model.specs.Clash.{clashes, clashesOf}
 use Rattle.clashes.specs.declared.Clashes.{Clashes}
 use Rattle.clashes.specs.Code.{codeOf}
@@ -18,10 +18,11 @@ use Rattle.clashes.specs.Tables.{tablesMeet}
 
 -- ---- the whole list
 
--- n and each p are within their limits, so that every tick is in its table
+-- n, each p and each rest are within their limits, so that every tick is in its table, and every distance at which two tables clash is listed
 pub record Tabled (b : Batch) : Type 0 where
   pub few : b .n ≤ mostJobs
   pub short : (i : ℕ) → i < b .n → ticks b i ≤ mostTicks
+  pub rests : (s : ℕ) → s < stations → restOf b s ≤ mostRest
 
 -- D, and the codes of the first 1,024 clashes
 unfoldable pub listOf : Batch → Clashes
@@ -52,10 +53,10 @@ pub record Grown (l m : Clashes) (xs : List ℕ) (most : ℕ) : Type 0 where
   pub all : m ≡ addAll l xs
   pub few : m .count ≤ l .count + most
 
--- the codes of two jobs, by rising distance
-unfoldable pub pairCodes : Job → Job → ℕ → List ℕ
-pairCodes first second base =
-    map (λ k. base + k) (keep (λ k. tablesMeet first second (subℕ k 15)) (count 0 31))
+-- the codes of two jobs, by rising distance, from the first one's places and the second's table
+unfoldable pub pairCodes : ℕ → ℕ → List ℕ → Job → ℕ → List ℕ
+pairCodes low end places second base =
+    map (λ k. base + k) (keep (λ k. tablesMeet low end places second (subℕ k 15)) (count 0 45))
 
 -- the codes of job i with the jobs after it
 unfoldable pub rowCodes : Batch → ℕ → List ℕ

@@ -1,5 +1,5 @@
 -- The listed clashes by pairs of jobs: the distances of a pair as bits of one number, so that starts are held to all of them at once.
--- A pair is the number i * 32 + j, which is a code without its last 5 bits.
+-- A pair is the number i * 32 + j, which is a code without its last 6 bits.
 use Prim.Native.Nat.{ℕ, _+_, _-_, _/_, _%_, _^_, _≤_, _<_}
 use mathlib.Core.Path.{_≡_}
 use mathlib.Core.List.{List}
@@ -9,14 +9,14 @@ use Rattle.model.specs.Common.{if_then_else_}
 use Rattle.model.specs.Limits.{mostJobs}
 use Rattle.clashes.specs.First.{Unmet}
 
--- t_j + 16 − t_i, of later = t_j + 16 and earlier = t_i, where that is at most 31, and else 0, the bit that no distance has: the bit of a
+-- t_j + 23 − t_i, of later = t_j + 23 and earlier = t_i, where that is at most 63, and else 0, the bit that no distance has: the bit of a
 -- clash that is met
 unfoldable pub bitOf : ℕ → ℕ → ℕ
-bitOf later earlier = if ltb 31 (later - earlier) then 0 else later - earlier
+bitOf later earlier = if ltb 63 (later - earlier) then 0 else later - earlier
 
--- d + 15 is at most 30 for each of the first n codes
+-- d + 22 is at most 44 for each of the first n codes
 pub record Near (codes : List ℕ) (n : ℕ) : Type 0 where
-  pub each : (c : ℕ) → c < n → getD codes c 0 % 32 < 31
+  pub each : (c : ℕ) → c < n → getD codes c 0 % 64 < 45
 
 -- the arrays have a place for each of the 276 pairs that 24 jobs have
 pub record Room (pair held end : List ℕ) : Type 0 where
@@ -24,11 +24,11 @@ pub record Room (pair held end : List ℕ) : Type 0 where
   pub of-held : length held ≡ 276
   pub of-end : length end ≡ 276
 
--- pair q is the pair of code c, and its bits have bit d + 16
+-- pair q is the pair of code c, and its bits have bit d + 23
 pub record In (codes pair held : List ℕ) (c q : ℕ) : Type 0 where
-  pub same : getD codes c 0 / 32 ≡ getD pair q 0
-  pub near : getD codes c 0 % 32 < 31
-  pub has : getD held q 0 / 2 ^ (getD codes c 0 % 32 + 1) % 2 ≡ 1
+  pub same : getD codes c 0 / 64 ≡ getD pair q 0
+  pub near : getD codes c 0 % 64 < 45
+  pub has : getD held q 0 / 2 ^ (getD codes c 0 % 64 + 1) % 2 ≡ 1
 
 -- there are at most 276 pairs, and each is of two jobs
 pub record OfJobs (pair : List ℕ) (pairs : ℕ) : Type 0 where

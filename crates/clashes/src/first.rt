@@ -7,13 +7,13 @@ ghost use Rattle.model.specs.Search.{met};
 ghost use Rattle.clashes.specs.Code.{clashOf};
 ghost use Rattle.clashes.specs.First.{firstCode, Known, Named, Unmet};
 
-// t_j - t_i = d for the clash of a code, as t_j + 15 = t_i + (d + 15).
+// t_j - t_i = d for the clash of a code, as t_j + 22 = t_i + (d + 22).
 fn is_met(code: u16, starts: &[u16; 24]) -> bool
     requires { ⌜ Named code ⌝ }
     ensures { λ r. ⌜ r ≡ met (now (starts .entry)) (clashOf code) ⌝ }
 {
     let x = wide16(code);
-    wide16(starts[x / 32 % 32]) + 15 == wide16(starts[x / 1024]) + x % 32
+    wide16(starts[x / 64 % 32]) + 22 == wide16(starts[x / 2048]) + x % 64
 }
 
 // The number of the first of the codes below count whose clash is met. None below low is.

@@ -3,6 +3,7 @@
 mod first;
 mod list;
 mod pairs;
+mod rest;
 mod tables;
 
 pub use first::first_met;
@@ -10,7 +11,7 @@ pub use list::list_clashes;
 pub use pairs::find_pairs;
 pub use pairs::unmet;
 
-// The clashes of a batch: how many there are, and the first 1,024 as codes i * 1024 + j * 32 + (d + 15). Places past them are 0.
+// The clashes of a batch: how many there are, and the first 1,024 as codes i * 2048 + j * 64 + (d + 22). Places past them are 0.
 pub struct Clashes {
     pub count: usize,
     pub codes: [u16; 1024],

@@ -1,6 +1,9 @@
 // The clash list of a batch: by i, then j, then d, all rising, each once. The loops over i and j stand in one function, since handing the batch on
-// would copy it, and the distances of a pair in one of their own.
+// would copy it, and the distances of a pair in one of their own. Job i's table is widened by the rests, once for all jobs after it.
 use crate::Clashes;
+use crate::rest::close_masks;
+use crate::rest::longest_rest;
+use crate::rest::widened;
 use crate::tables::tables_meet;
 use model::Batch;
 use model::Job;
@@ -21,21 +24,28 @@ fn put_code(codes: &mut [u16; 1024], count: usize, code: usize) -> usize
     count + 1
 }
 
-// Adds the clashes of two jobs, by rising distance; base is i * 1024 + j * 32. Further apart than their ticks reach, the tables do not meet.
-fn add_pair(codes: &mut [u16; 1024], count: usize, first: Job, second: Job, base: usize) -> usize
-    requires { ⌜ (first .ticks ≤ 16) × (second .ticks ≤ 16) ⌝ }
-    requires { ⌜ (count ≤ 20000) × (base ≤ 24576) ⌝ }
-    ensures { λ r. ⌜ Grown (listing count (now (codes .entry))) (listing r (now (codes .exit))) (pairCodes first second base) 31 ⌝ }
+// Adds the clashes of two jobs, by rising distance; base is i * 2048 + j * 64. The first job's places from low on and before end count. Further apart
+// than these and the second's ticks reach, the tables do not meet.
+fn add_pair(
+    codes: &mut [u16; 1024],
+    count: usize,
+    low: usize,
+    end: usize,
+    first: &[u16; 30],
+    second: Job,
+    base: usize,
+) -> usize
+    requires { ⌜ (low ≤ 7) × ((7 ≤ end) × ((end ≤ 30) × (second .ticks ≤ 16))) ⌝ }
+    requires { ⌜ (count ≤ 30000) × (base ≤ 48576) ⌝ }
+    ensures { λ r. ⌜ Grown (listing count (now (codes .entry))) (listing r (now (codes .exit))) (pairCodes low end (now (first .entry)) second base) 45 ⌝ }
 {
-    let p = wide16(first.ticks);
     let q = wide16(second.ticks);
-    let masks = first.masks;
     let others = second.masks;
-    let end = 15 + p;
+    let stop = end + 15;
     let mut at = count;
-    let mut k = 16 - q;
-    while k < end {
-        if tables_meet(p, &masks, q, &others, k) {
+    let mut k = low + 16 - q;
+    while k < stop {
+        if tables_meet(low, end, first, q, &others, k) {
             at = put_code(codes, at, base + k);
         }
         k = k + 1;
@@ -49,15 +59,28 @@ pub fn list_clashes(batch: Batch) -> Clashes
     ensures { λ r. ⌜ r ≡ listOf batch ⌝ }
 {
     let n = wide(batch.n);
+    let rests = batch.rests;
+    let longest = longest_rest(&rests);
+    let close = close_masks(&rests, longest);
     let mut codes = [0u16; 1024];
     let mut count: usize = 0;
     let mut i: usize = 0;
     while i < n {
         let first = batch.jobs[i];
+        let places = widened(first, &close, longest);
+        let end = 7 + wide16(first.ticks) + longest;
         let mut j = i + 1;
         while j < n {
             let second = batch.jobs[j];
-            count = add_pair(&mut codes, count, first, second, i * 1024 + j * 32);
+            count = add_pair(
+                &mut codes,
+                count,
+                7 - longest,
+                end,
+                &places,
+                second,
+                i * 2048 + j * 64,
+            );
             j = j + 1;
         }
         i = i + 1;

@@ -5,7 +5,7 @@ ghost use Prim.Native.Nat.{_≤_};
 ghost use Rattle.clashes.specs.First.{Known};
 ghost use Rattle.clashes.specs.Pairs.{bitOf, Near, Room, OfJobs, Paired, NoneMet};
 
-// later - earlier where that is 0 to 31, and else 0, a bit that no pair has.
+// later - earlier where that is 0 to 63, and else 0, a bit that no pair has.
 fn bit_of(later: usize, earlier: usize) -> usize
     ensures { λ r. ⌜ r ≡ bitOf later earlier ⌝ }
 {
@@ -13,7 +13,7 @@ fn bit_of(later: usize, earlier: usize) -> usize
         return 0;
     }
     let apart = later - earlier;
-    if 31 < apart {
+    if 63 < apart {
         return 0;
     }
     apart
@@ -25,7 +25,7 @@ pub fn find_pairs(
     codes: &[u16; 1024],
     count: usize,
     pair: &mut [u16; 276],
-    held: &mut [u32; 276],
+    held: &mut [u64; 276],
     end: &mut [u16; 276],
 ) -> usize
     requires { ⌜ count ≤ 1024 ⌝ }
@@ -36,20 +36,20 @@ pub fn find_pairs(
 {
     let mut pairs: usize = 0;
     let mut last: u16 = 65535;
-    let mut bits: u32 = 0;
+    let mut bits: u64 = 0;
     let mut k: usize = 0;
     while k < count {
         let code = codes[k];
-        if code / 32 != last {
+        if code / 64 != last {
             if pairs == 276 {
                 return pairs;
             }
-            last = code / 32;
+            last = code / 64;
             pair[pairs] = last;
             bits = 0;
             pairs = pairs + 1;
         }
-        bits = bits | (2u32 << ((code % 32) as u32));
+        bits = bits | (2u64 << ((code % 64) as u64));
         held[pairs - 1] = bits;
         k = k + 1;
         end[pairs - 1] = k as u16;
@@ -60,7 +60,7 @@ pub fn find_pairs(
 // A number of codes from the first on that the starts do not meet: those before the first pair that has the bit of its starts.
 pub fn unmet(
     pair: &[u16; 276],
-    held: &[u32; 276],
+    held: &[u64; 276],
     end: &[u16; 276],
     pairs: usize,
     starts: &[u16; 24],
@@ -72,8 +72,8 @@ pub fn unmet(
     let mut q: usize = 0;
     while q < pairs {
         let x = wide16(pair[q]);
-        let at = bit_of(wide16(starts[x % 32]) + 16, wide16(starts[x / 32]));
-        if (held[q] >> (at as u32)) % 2 == 1 {
+        let at = bit_of(wide16(starts[x % 32]) + 23, wide16(starts[x / 32]));
+        if (held[q] >> (at as u64)) % 2 == 1 {
             return low;
         }
         low = wide16(end[q]);

@@ -1,7 +1,11 @@
-// The limits of a batch's numbers, as tests: the edition (3), n, m and p (4), a delay's jobs (5) and its weight (6), and a job's ends (20).
+// The limits of a batch's numbers, as tests: the edition (3), n, m and p (4), a delay's jobs (5) and its weight (6), a job's ends (20) and a
+// station's rest (21).
 use model::Delay;
 ghost use mathlib.Core.Path.{_≡_};
 ghost use mathlib.Core.Bool.{_&&_};
+ghost use lib.Dec.{leb};
+ghost use Rattle.model.specs.Common.{between};
+ghost use Rattle.model.specs.Limits.{mostRest};
 ghost use Rattle.model.specs.Window.{endsOk};
 ghost use Rattle.model.specs.Open.{editionOk, countsOk, ticksOk, jobsOk, weightOk};
 
@@ -67,4 +71,18 @@ pub fn ends_ok(earliest: u16, latest: u16) -> bool
     ensures { λ r. ⌜ r ≡ endsOk earliest latest ⌝ }
 {
     earliest <= 20000 && earliest <= latest
+}
+
+// A station rests at most 7 ticks.
+pub fn rest_ok(ticks: u8) -> bool
+    ensures { λ r. ⌜ r ≡ leb ticks mostRest ⌝ }
+{
+    ticks <= 7
+}
+
+// And at least 1, where it has a line.
+pub fn rest_line_ok(ticks: u8) -> bool
+    ensures { λ r. ⌜ r ≡ between 1 ticks mostRest ⌝ }
+{
+    1 <= ticks && rest_ok(ticks)
 }

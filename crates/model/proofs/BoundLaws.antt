@@ -49,8 +49,8 @@ unfolding plus
 delay-slow (pos k) e t = omega (arith, leb-true k 1000 e)
 delay-slow (negsuc k) e t = omega arith
 
--- turns do: a clash's distance is −15 to 15
-near : (a b : ℕ) (d : ℤ) → a < 16 → b < 16 → subℕ a b ≡ d → (t : ℕ) → (plus t (d +ℤ pos 1) ≤ t + 1000) × (plus t (pos 1 -ℤ d) ≤ t + 1000)
+-- turns do: a clash's distance is −22 to 22
+near : (a b : ℕ) (d : ℤ) → a < 45 → b < 45 → subℕ a b ≡ d → (t : ℕ) → (plus t (d +ℤ pos 1) ≤ t + 1000) × (plus t (pos 1 -ℤ d) ≤ t + 1000)
 unfolding plus
 near a b (pos zero) ha hb e t = (omega arith, omega arith)
 near a b (pos (suc k)) ha hb e t = (omega (arith, sub-pos a b (suc k) e), le-sub t (t + 1000) 1 (suc k) (omega arith))
@@ -63,8 +63,7 @@ module _ (b : Batch) (fits : Fits b) where
     where
       both-near : (plus t (c .d +ℤ pos 1) ≤ t + 1000) × (plus t (pos 1 -ℤ c .d) ≤ t + 1000)
       both-near =
-          near (l .shared .a) (l .shared .b) (c .d) (omega (arith, l .shared .a-in, fits .short (c .i) (omega (arith, l .rising, l .known))))
-          (omega (arith, l .shared .b-in, fits .short (c .j) (l .known))) (l .shared .distance) t
+          near (l .lifted) 22 (c .d) (l .lifted-in) (omega arith) (l .distance) t
 
       pick : (s : ℕ) → plus t (sideOf c s .weight) ≤ t + 1000
       pick zero = both-near .0

@@ -1,24 +1,26 @@
--- No two jobs hold one station in the same tick exactly when no listed clash is met.
+-- Two jobs keep the rest of every station exactly when their distance is no clash (02, Q-5), and starts keep the stations exactly when no listed clash is met.
 use Prim.Native.Nat.{ℕ, suc, _+_, _-_, _≤_, _<_}
 use mathlib.Core.Path.{_≡_, refl, ap, sym, _∙_, subst}
-use mathlib.Core.Bool.{true, false, _&&_}
+use mathlib.Core.Bool.{Bool, true, false, _&&_}
+use mathlib.Core.Logic.{_↔_}
 use mathlib.Core.List.{List, List·Memᴰ, Memᴰ·cast}
 use native.Mathlib.Omega.{arith}
-use lib.IntN.{ℤ, subℕ}
+use lib.IntN.{ℤ, subℕ, _-ℤ_}
 use Rattle.model.specs.declared.Batch.{Batch}
-use Rattle.model.specs.Common.{count, any, keep, joined, eqZ}
-use Rattle.model.specs.Batch.{ticks, mask, bit}
-use Rattle.model.specs.Plan.{start, Holds, KeepsStations}
+use Rattle.model.specs.Common.{count, any, keep, joined}
+use Rattle.model.specs.Batch.{ticks, mask, bit, restOf}
+use Rattle.model.specs.Plan.{start, Holds, tooClose, Apart, KeepsStations}
 use Rattle.model.specs.Clash.{Clash, meet, clashing, distances, clashesOf, clashes}
 use Rattle.model.specs.Search.{met}
 use Rattle.model.proofs.BoolLaws.{apart, decide, both, and, T-true, true-T}
-use Rattle.model.proofs.DistanceLaws.{eqZ-eq, eqZ-refl, sub-sum, sum-sub}
+use Rattle.model.proofs.DistanceLaws.{eqZ-eq, eqZ-refl, sum-sub, between-some, sub-sub, close-le}
 use Rattle.model.proofs.ListLaws.{any-some, some-any, keep-some, some-keep, map-some, some-map, joined-some, some-joined, count-some, some-count}
+use Rattle.model.proofs.OrderLaws.{keep-in}
 
 unfoldable pub Unmet : Batch → List ℕ → Type 0
 Unmet b ts = (c : Clash) → List·Memᴰ c (clashes b) → met ts c ≡ false
 
--- ---- what a listed clash is
+-- ---- what a clash is: a station that both hold, in ticks that are too close there
 
 pub record Shared (p : Batch) (i j : ℕ) (d : ℤ) : Type 0 where
   pub a : ℕ
@@ -27,56 +29,94 @@ pub record Shared (p : Batch) (i j : ℕ) (d : ℤ) : Type 0 where
   pub a-in : a < ticks p i
   pub b-in : b < ticks p j
   pub s-in : s < 16
-  pub distance : subℕ a b ≡ d
   pub first : bit (mask p i a) s ≡ true
   pub second : bit (mask p j b) s ≡ true
+  pub close : tooClose (restOf p s) (subℕ a b -ℤ d) ≡ true
 
--- masks that meet share a station
-pub meet-some : (m m′ : ℕ) → meet m m′ ≡ true → (s : ℕ) × (s < 16) × (bit m s ≡ true) × (bit m′ s ≡ true)
-unfolding meet
-meet-some m m′ e =
-    let s = any-some (λ s. bit m s && bit m′ s) (count 0 16) e in
-    let h = both (bit m (s .0)) (bit m′ (s .0)) (s .2) in
-    (s .0, omega (arith, count-some 0 16 (s .0) (s .1) .1), h .0, h .1)
+module _ (p : Batch) (i j : ℕ) (d : ℤ) where
+  abbrev at : ℕ → ℕ → ℕ → Bool
+  at a b s = bit (mask p i a) s && bit (mask p j b) s && tooClose (restOf p s) (subℕ a b -ℤ d)
 
--- and back
-pub some-meet : (m m′ s : ℕ) → s < 16 → bit m s ≡ true → bit m′ s ≡ true → meet m m′ ≡ true
-unfolding meet
-some-meet m m′ s h p q = some-any (λ s. bit m s && bit m′ s) (count 0 16) (some-count 0 16 s (omega arith) (omega arith)) (and p q)
+  shared-at : (a b s : ℕ) → a < ticks p i → b < ticks p j → s < 16 → at a b s ≡ true → Shared p i j d
+  shared-at a b s ha hb hs e =
+      let r = both (bit (mask p i a) s && bit (mask p j b) s) _ e in
+      let q = both (bit (mask p i a) s) _ (r .0) in
+      record { a = a; b = b; s = s; a-in = ha; b-in = hb; s-in = hs; first = q .0; second = q .1; close = r .1 }
 
-shared-at : (p : Batch) (i j : ℕ) (d : ℤ) (a b : ℕ) → a < ticks p i → b < ticks p j → (eqZ (subℕ a b) d && meet (mask p i a) (mask p j b)) ≡ true → Shared p i j d
-shared-at p i j d a b ha hb e =
-    let r = both (eqZ (subℕ a b) d) (meet (mask p i a) (mask p j b)) e in
-    let s = meet-some (mask p i a) (mask p j b) (r .1) in
-    record { a = a; b = b; s = s .0; a-in = ha; b-in = hb; s-in = s .1; distance = eqZ-eq (subℕ a b) d (r .0); first = s .2; second = s .3 }
+  pub clashing-shared : clashing p i j d ≡ true → Shared p i j d
+  unfolding clashing meet
+  clashing-shared e =
+      let a = any-some (λ a. any (λ b. any (at a b) (count 0 16)) (count 0 (ticks p j))) (count 0 (ticks p i)) e in
+      let b = any-some (λ b. any (at (a .0) b) (count 0 16)) (count 0 (ticks p j)) (a .2) in
+      let s = any-some (at (a .0) (b .0)) (count 0 16) (b .2) in
+      shared-at (a .0) (b .0) (s .0) (omega (arith, count-some 0 (ticks p i) (a .0) (a .1) .1)) (omega (arith, count-some 0 (ticks p j) (b .0) (b .1) .1)) (omega (arith, count-some 0 16 (s .0) (s .1) .1)) (s .2)
 
-pub clashing-shared : (p : Batch) (i j : ℕ) (d : ℤ) → clashing p i j d ≡ true → Shared p i j d
-unfolding clashing
-clashing-shared p i j d e =
-    let a = any-some (λ a. any (λ b. eqZ (subℕ a b) d && meet (mask p i a) (mask p j b)) (count 0 (ticks p j))) (count 0 (ticks p i)) e in
-    let b = any-some (λ b. eqZ (subℕ (a .0) b) d && meet (mask p i (a .0)) (mask p j b)) (count 0 (ticks p j)) (a .2) in
-    shared-at p i j d (a .0) (b .0) (omega (arith, count-some 0 (ticks p i) (a .0) (a .1) .1)) (omega (arith, count-some 0 (ticks p j) (b .0) (b .1) .1)) (b .2)
+  pub shared-clashing : Shared p i j d → clashing p i j d ≡ true
+  unfolding clashing meet
+  shared-clashing h =
+      some-any (λ a. any (λ b. any (at a b) (count 0 16)) (count 0 (ticks p j))) (count 0 (ticks p i))
+      (some-count 0 (ticks p i) (h .a) (omega arith) (omega (arith, h .a-in)))
+      (some-any (λ b. any (at (h .a) b) (count 0 16)) (count 0 (ticks p j))
+      (some-count 0 (ticks p j) (h .b) (omega arith) (omega (arith, h .b-in)))
+      (some-any (at (h .a) (h .b)) (count 0 16) (some-count 0 16 (h .s) (omega arith) (omega (arith, h .s-in))) (and (and (h .first) (h .second)) (h .close))))
 
-pub shared-clashing : (p : Batch) (i j : ℕ) (d : ℤ) → Shared p i j d → clashing p i j d ≡ true
-unfolding clashing
-shared-clashing p i j d h =
-    some-any (λ a. any (λ b. eqZ (subℕ a b) d && meet (mask p i a) (mask p j b)) (count 0 (ticks p j))) (count 0 (ticks p i))
-    (some-count 0 (ticks p i) (h .a) (omega arith) (omega (arith, h .a-in)))
-    (some-any (λ b. eqZ (subℕ (h .a) b) d && meet (mask p i (h .a)) (mask p j b)) (count 0 (ticks p j))
-    (some-count 0 (ticks p j) (h .b) (omega arith) (omega (arith, h .b-in)))
-    (and (ap (λ (z : ℤ). eqZ z d) (h .distance) ∙ eqZ-refl d) (some-meet (mask p i (h .a)) (mask p j (h .b)) (h .s) (h .s-in) (h .first) (h .second))))
+-- ---- the law: two jobs keep the rest at all stations exactly when their distance is no clash, for every rest and every distance
+
+-- ticks a and b of jobs that start at t and u, in the plan's own ticks
+pub in-plan : (r a b t u : ℕ) → tooClose r (subℕ a b -ℤ subℕ u t) ≡ tooClose r (subℕ (t + a) (u + b))
+in-plan r a b t u = ap (tooClose r) (sub-sub a b u t)
+
+pub apart-iff : (p : Batch) (ts : List ℕ) (i j : ℕ) → Apart p ts i j ↔ (clashing p i j (subℕ (start ts j) (start ts i)) ≡ false)
+unfolding Apart Holds
+apart-iff p ts i j = (forth, back)
+  where
+    d : ℤ
+    d = subℕ (start ts j) (start ts i)
+
+    forth : Apart p ts i j → clashing p i j d ≡ false
+    forth free =
+        decide (clashing p i j d) λ e.
+        let x = clashing-shared p i j d e in
+        free (x .s) (start ts i + x .a) (start ts j + x .b) (x .s-in) (x .a, x .a-in, refl, true-T (x .first)) (x .b, x .b-in, refl, true-T (x .second))
+        (true-T (sym (in-plan (restOf p (x .s)) (x .a) (x .b) (start ts i) (start ts j)) ∙ x .close))
+
+    back : clashing p i j d ≡ false → Apart p ts i j
+    back none s x y hs (a, ha, ea, ta) (b, hb, eb, tb) c =
+        apart (sym none
+        ∙ shared-clashing p i j d (
+        record {
+          a = a;
+          b = b;
+          s = s;
+          a-in = ha;
+          b-in = hb;
+          s-in = hs;
+          first = T-true _ ta;
+          second = T-true _ tb;
+          close =
+              in-plan (restOf p s) a b (start ts i) (start ts j)
+              ∙ ap (λ (z : ℤ). tooClose (restOf p s) z) (λ k. subℕ (sym ea k) (sym eb k)) ∙ T-true _ c;
+        }
+        ))
+
+-- ---- the list
 
 pub record Listed (p : Batch) (c : Clash) : Type 0 where
   pub rising : c .i < c .j
   pub known : c .j < p .n
-  pub shared : Shared p (c .i) (c .j) (c .d)
+  pub clashes-at : clashing p (c .i) (c .j) (c .d) ≡ true
+  pub lifted : ℕ
+  pub lifted-in : lifted < 45
+  pub distance : subℕ lifted 22 ≡ c .d
 
 listed-at : (p : Batch) (c : Clash) (i j : ℕ) → i < j → j < p .n → List·Memᴰ c (clashesOf p i j) → Listed p c
-unfolding clashesOf
+unfolding clashesOf distances
 listed-at p c i j h g m =
     let d = map-some {A = ℤ} {B = Clash} (λ d. record { i = i; j = j; d = d }) (keep (clashing p i j) distances) m in
-    subst (λ (c : Clash). Listed p c) (sym (d .2))
-    (record { rising = h; known = g; shared = clashing-shared p i j (d .0) (keep-some (clashing p i j) distances (d .1)) })
+    let k = map-some (λ k. subℕ k 22) (count 0 45) (keep-in (λ (x y : ℤ). x ≡ y) (clashing p i j) distances (d .0) (d .1)) in
+    subst (λ (c : Clash). Listed p c) (sym (d .2)) (
+    record { rising = h; known = g; clashes-at = keep-some (clashing p i j) distances (d .1); lifted = k .0; lifted-in = omega (arith, count-some 0 45 (k .0) (k .1) .1); distance = sym (k .2) }
+    )
 
 pub clash-listed : (p : Batch) (c : Clash) → List·Memᴰ c (clashes p) → Listed p c
 unfolding clashes
@@ -86,42 +126,38 @@ clash-listed p c m =
     let h = count-some (suc (i .0)) (p .n - suc (i .0)) (j .0) (j .1) in
     listed-at p c (i .0) (j .0) (h .0) (omega (arith, h .1, count-some 0 (p .n) (i .0) (i .1) .1)) (j .2)
 
--- every clash of jobs of at most 16 ticks is listed
-distance-listed : (a b : ℕ) → a < 16 → b < 16 → List·Memᴰ (subℕ a b) distances
+-- −22 to 22 are all the distances at which tables of at most 16 ticks clash, where no station rests more than 7 ticks
+pub distance-listed : (p : Batch) (i j : ℕ) (d : ℤ) → ticks p i ≤ 16 → ticks p j ≤ 16 → ((s : ℕ) → s < 16 → restOf p s ≤ 7) → clashing p i j d ≡ true → List·Memᴰ d distances
 unfolding distances
-distance-listed a b ha hb =
-    Memᴰ·cast (sum-sub a b (a + 15 - b) 15 (omega arith))
-    (some-map (λ k. subℕ k 15) (count 0 31) (some-count 0 31 (a + 15 - b) (omega arith) (omega arith)))
+distance-listed p i j d hi hj low e =
+    let x = clashing-shared p i j d e in
+    let w = between-some d in
+    let u = w .later in
+    let t = w .earlier in
+    let near = close-le (restOf p (x .s)) (t + x .a) (u + x .b) (sym (in-plan (restOf p (x .s)) (x .a) (x .b) t u) ∙ ap (λ (z : ℤ). tooClose (restOf p (x .s)) (subℕ (x .a) (x .b) -ℤ z)) (w .is) ∙ x .close) in
+    let r : restOf p (x .s) ≤ 7 = low (x .s) (x .s-in) in
+    Memᴰ·cast (sym (w .is) ∙ sum-sub u t (u + 22 - t) 22 (omega (arith, near .0, near .1, x .a-in, x .b-in)))
+    (some-map (λ k. subℕ k 22) (count 0 45) (some-count 0 45 (u + 22 - t) (omega arith) (omega (arith, near .0, near .1, x .a-in, x .b-in))))
 
-pub shared-listed : (p : Batch) (i j : ℕ) (d : ℤ) → i < j → j < p .n → ticks p i ≤ 16 → ticks p j ≤ 16 → Shared p i j d → List·Memᴰ (record { i = i; j = j; d = d }) (clashes p)
+pub clashing-listed : (p : Batch) (i j : ℕ) (d : ℤ) → i < j → j < p .n → List·Memᴰ d distances → clashing p i j d ≡ true → List·Memᴰ (record { i = i; j = j; d = d }) (clashes p)
 unfolding clashes clashesOf
-shared-listed p i j d h g hi hj x =
+clashing-listed p i j d h g m e =
     some-joined (λ i. joined (clashesOf p i) (count (suc i) (p .n - suc i))) (count 0 (p .n)) (some-count 0 (p .n) i (omega arith) (omega arith))
     (some-joined (clashesOf p i) (count (suc i) (p .n - suc i)) (some-count (suc i) (p .n - suc i) j h (omega arith))
-    (some-map {A = ℤ} {B = Clash} (λ d. record { i = i; j = j; d = d }) (keep (clashing p i j) distances)
-    (some-keep (clashing p i j) distances
-    (Memᴰ·cast (sym (x .distance)) (distance-listed (x .a) (x .b) (omega (arith, x .a-in)) (omega (arith, x .b-in))))
-    (shared-clashing p i j d x))))
+    (some-map {A = ℤ} {B = Clash} (λ d. record { i = i; j = j; d = d }) (keep (clashing p i j) distances) (some-keep (clashing p i j) distances m e)))
 
--- ---- the law
+-- ---- so starts keep the stations exactly when they meet no listed clash
 
 pub apart-unmet : (p : Batch) (ts : List ℕ) → KeepsStations p ts → Unmet p ts
-unfolding KeepsStations Unmet Holds met
+unfolding KeepsStations Unmet met
 apart-unmet p ts free c m =
     let l = clash-listed p c m in
-    let x = l .shared in
     decide (met ts c) λ e.
-    free (c .i) (c .j) (x .s) (start ts (c .i) + x .a) (l .rising) (l .known) (x .s-in) (x .a, x .a-in, refl, true-T (x .first)) (
-      x .b,
-      x .b-in,
-      omega (arith, sub-sum (start ts (c .j)) (start ts (c .i)) (x .a) (x .b) (eqZ-eq _ _ e ∙ sym (x .distance))),
-      true-T (x .second),
-    )
+    apart (sym (apart-iff p ts (c .i) (c .j) .0 (free (c .i) (c .j) (l .rising) (l .known))) ∙ ap (clashing p (c .i) (c .j)) (eqZ-eq _ _ e) ∙ l .clashes-at)
 
-pub unmet-apart : (p : Batch) (ts : List ℕ) → ((i : ℕ) → i < p .n → ticks p i ≤ 16) → Unmet p ts → KeepsStations p ts
-unfolding KeepsStations Unmet Holds met
-unmet-apart p ts short un i j s x h g hs (a, ha, ea, ta) (b, hb, eb, tb) =
-    let c : Clash = record { i = i; j = j; d = subℕ a b } in
-    let x : Shared p i j (subℕ a b) = record { a = a; b = b; s = s; a-in = ha; b-in = hb; s-in = hs; distance = refl; first = T-true (bit (mask p i a) s) ta; second = T-true (bit (mask p j b) s) tb } in
-    let m : List·Memᴰ c (clashes p) = shared-listed p i j (subℕ a b) h g (short i (omega arith)) (short j g) x in
-    apart (sym (un c m) ∙ (ap (λ (z : ℤ). eqZ z (subℕ a b)) (sum-sub (start ts j) (start ts i) a b (omega arith)) ∙ eqZ-refl (subℕ a b)))
+pub unmet-apart : (p : Batch) (ts : List ℕ) → ((i : ℕ) → i < p .n → ticks p i ≤ 16) → ((s : ℕ) → s < 16 → restOf p s ≤ 7) → Unmet p ts → KeepsStations p ts
+unfolding KeepsStations Unmet met
+unmet-apart p ts short low un i j h g =
+    let d = subℕ (start ts j) (start ts i) in
+    apart-iff p ts i j .1 (decide (clashing p i j d) λ e.
+    apart (sym (un (record { i = i; j = j; d = d }) (clashing-listed p i j d h g (distance-listed p i j d (short i (omega arith)) (short j g) low e) e)) ∙ eqZ-refl d))

@@ -1,12 +1,14 @@
--- Distances of two ticks without the integers: p − q = a − b is p + b = a + q, and t + (a − b) ≤ u is t + a ≤ u + b.
-use Prim.Native.Nat.{ℕ, suc, _+_, _-_, _≤_}
-use mathlib.Core.Path.{_≡_, refl, ap}
+-- Distances of two ticks without the integers: p − q = a − b is p + b = a + q, t + (a − b) ≤ u is t + a ≤ u + b, and ticks that are too close are at most r apart.
+use Prim.Native.Nat.{ℕ, zero, suc, _+_, _-_, _≤_, _<_}
+use mathlib.Core.Path.{_≡_, refl, ap, sym}
 use mathlib.Core.Bool.{Bool, true, false, cond}
 use native.Mathlib.Omega.{arith}
-use lib.IntN.{ℤ, pos, negsuc, subℕ}
-use lib.Dec.{ltb}
-use borrow.Author.Tests.{ltb-true, ltb-false, eqb-true, eq-eqb}
+use lib.IntN.{ℤ, pos, negsuc, subℕ, _-ℤ_}
+use lib.Signed.{_≤ℤ_}
+use lib.Dec.{leb, ltb, le→leb}
+use borrow.Author.Tests.{leb-true, le-leb, ltb-true, ltb-false, eqb-true, eq-eqb}
 use Rattle.model.specs.Common.{eqZ}
+use Rattle.model.specs.Plan.{tooClose}
 use Rattle.model.specs.Starts.{plus}
 use Rattle.model.proofs.BoolLaws.{apart}
 
@@ -101,3 +103,56 @@ neg-sub u t k h = go (ltb u t) refl
     go : (c : Bool) → ltb u t ≡ c → diff u t c ≡ negsuc k
     go true e = ap negsuc (omega arith)
     go false e = absurd (omega (arith, ltb-false u t e))
+
+-- ---- every integer is a distance, and so is the distance of two
+
+pub record Between (d : ℤ) : Type 0 where
+  pub later : ℕ
+  pub earlier : ℕ
+  pub is : subℕ later earlier ≡ d
+
+pub between-some : (d : ℤ) → Between d
+between-some (pos k) = record { later = k; earlier = 0; is = pos-sub k 0 k (omega arith) }
+between-some (negsuc k) = record { later = 0; earlier = suc k; is = neg-sub 0 (suc k) k (omega arith) }
+
+-- (a − c) − (u − t) = (t + a) − (u + c)
+pub sub-sub : (a c u t : ℕ) → subℕ a c -ℤ subℕ u t ≡ subℕ (t + a) (u + c)
+unfolding diff
+sub-sub a c u t = go (subℕ a c) refl (subℕ u t) refl
+  where
+    go : (x : ℤ) → subℕ a c ≡ x → (y : ℤ) → subℕ u t ≡ y → x -ℤ y ≡ subℕ (t + a) (u + c)
+    go (pos k) e (pos zero) f = sym (pos-sub (t + a) (u + c) (k + 0) (omega (arith, sub-pos a c k e, sub-pos u t 0 f)))
+    go (pos k) e (pos (suc l)) f = sum-sub k (suc l) (t + a) (u + c) (omega (arith, sub-pos a c k e, sub-pos u t (suc l) f))
+    go (pos k) e (negsuc l) f = sym (pos-sub (t + a) (u + c) (k + suc l) (omega (arith, sub-pos a c k e, sub-neg u t l f)))
+    go (negsuc k) e (pos zero) f = sum-sub 0 (suc k) (t + a) (u + c) (omega (arith, sub-neg a c k e, sub-pos u t 0 f))
+    go (negsuc k) e (pos (suc l)) f = sym (neg-sub (t + a) (u + c) (suc (k + l)) (omega (arith, sub-neg a c k e, sub-pos u t (suc l) f)))
+    go (negsuc k) e (negsuc l) f = sum-sub (suc l) (suc k) (t + a) (u + c) (omega (arith, sub-neg a c k e, sub-neg u t l f))
+
+-- ---- ticks that are too close
+
+-- x and y are at most r apart
+pub close-le : (r x y : ℕ) → tooClose r (subℕ x y) ≡ true → (x ≤ y + r) × (y ≤ x + r)
+unfolding tooClose diff
+close-le r x y h = go (subℕ x y) refl h
+  where
+    go : (z : ℤ) → subℕ x y ≡ z → tooClose r z ≡ true → (x ≤ y + r) × (y ≤ x + r)
+    go (pos k) e h = let l = leb-true k r h in (omega (arith, sub-pos x y k e), omega (arith, sub-pos x y k e))
+    go (negsuc k) e h = let l = leb-true (suc k) r h in (omega (arith, sub-neg x y k e), omega (arith, sub-neg x y k e))
+
+-- and back
+pub le-close : (r x y : ℕ) → x ≤ y + r → y ≤ x + r → tooClose r (subℕ x y) ≡ true
+unfolding tooClose diff
+le-close r x y h g = go (subℕ x y) refl
+  where
+    go : (z : ℤ) → subℕ x y ≡ z → tooClose r z ≡ true
+    go (pos k) e = le-leb k r (omega (arith, sub-pos x y k e))
+    go (negsuc k) e = le-leb (suc k) r (omega (arith, sub-neg x y k e))
+
+-- ---- k − 22 for k below 45 is −22 to 22
+
+pub lifted-near : (k : ℕ) → k < 45 → (negsuc 21 ≤ℤ subℕ k 22) × (subℕ k 22 ≤ℤ pos 22)
+lifted-near k h = go (ltb k 22) refl
+  where
+    go : (p : Bool) → ltb k 22 ≡ p → (negsuc 21 ≤ℤ cond p (negsuc (22 - suc k)) (pos (k - 22))) × (cond p (negsuc (22 - suc k)) (pos (k - 22)) ≤ℤ pos 22)
+    go true e = (record { le = le→leb (22 - suc k) 21 (omega arith) }, record { le = tt })
+    go false e = (record { le = tt }, record { le = le→leb (k - 22) 22 (omega (arith, ltb-false k 22 e)) })

@@ -16,6 +16,7 @@ use Rattle.model.specs.Limits.{mostJobs, mostDelays}
 use Rattle.model.specs.Batch.{blankJob, blankDelay, jobOf, ticks, mask, delayOf, delaysOf}
 use Rattle.model.specs.Line.{readLine}
 use Rattle.model.specs.Window.{WindowLine, windowText, window}
+use Rattle.model.specs.Rest.{RestLine, restText, rest}
 use Rattle.model.specs.Format.{headerLine, masksOf, jobLine, delayLine, jobsOf, Further, furtherOf, furtherText, batchFile, noFurther, Edition, Within, batchOf, blanked}
 use Rattle.model.specs.Open.{editionOk, fewClashes, delaysMet, header, job, delay, readOne, readAll, readKind, nothingLeft, readFurther, readRest, readFile, openFile}
 use Rattle.model.proofs.BoolLaws.{apart}
@@ -24,8 +25,9 @@ use Rattle.model.proofs.OutcomeLaws.{refused, accept-eq, bind-accepts, 
 use Rattle.model.proofs.LimitLaws.{LimitsOk, edition-iff, counts-iff, within-limits, limits-within}
 use Rattle.model.proofs.ReadLaws.{one-back, one-forth, all-back, all-forth}
 use Rattle.model.proofs.FrameLaws.{IsWide, HeaderOk, JobOk, DelayOk, header-framing, job-framing, delay-framing}
-use Rattle.model.proofs.KindLaws.{kind-back, kind-forth, kind-end}
-use Rattle.model.proofs.WindowLaws.{windowBody, WindowIn, window-framing, EachWindow, lines-of, lines-within, lines-each}
+use Rattle.model.proofs.KindLaws.{kind-back, later-lines, kind-forth}
+use Rattle.model.proofs.WindowLaws.{EachWindow, window-framing, windows-of, windows-within, windows-each}
+use Rattle.model.proofs.RestLaws.{EachRest, rest-framing, rests-of, rests-within, rests-each}
 
 -- ---- a batch's limits are those of its frames
 
@@ -41,13 +43,14 @@ limits-delays b l q k = (l .jobs-each q k, l .weights-each q k)
 -- ---- the further lines, kind by kind, among n jobs
 
 -- each kind's in limits
-pub record FurtherOk (n : ℕ) (few : n ≤ mostJobs) (f : Further) : Type 0 where
-  pub windows : EachWindow n few [] (f .windows)
+pub record FurtherOk (n : ℕ) (f : Further) : Type 0 where
+  pub windows : EachWindow n [] (f .windows)
+  pub rests : EachRest [] (f .rests)
 
 -- a batch's
-pub limits-further : (b : Batch) (few : b .n ≤ mostJobs) → LimitsOk b → FurtherOk (b .n) few (furtherOf b)
+pub limits-further : (b : Batch) → b .n ≤ mostJobs → LimitsOk b → FurtherOk (b .n) (furtherOf b)
 unfolding furtherOf
-limits-further b few l = record { windows = lines-each b few (l .windows) }
+limits-further b few l = record { windows = windows-each b few (l .windows); rests = rests-each b (l .rests) }
 
 -- nothing is left
 pub no-more : (end : List ℕ) → isEmpty end ≡ true → end ≡ []
@@ -61,43 +64,48 @@ left-nothing [] e = refl
 left-nothing (c ∷ cs) e = refused (bind-accepts (given 1 (readLine (c ∷ cs))) _ tt e .2)
 
 module _ (n : ℕ) (few : n ≤ mostJobs) where
-  -- written, they are read
-  further-forth : (f : Further) → FurtherOk n few f → readFurther n (furtherText f) ≡ accept f
-  unfolding readFurther furtherText nothingLeft windowText _>>=_
+  -- written, they are read: each kind's up to those of the kinds above it
+  further-forth : (f : Further) → FurtherOk n f → readFurther n (furtherText f) ≡ accept f
+  unfolding readFurther furtherText nothingLeft windowText restText _>>=_
   further-forth f ok =
-      let file = joined windowText (f .windows) in
-      let ends = kind-end (window n) 0xA3 windowBody (WindowIn n) (window-framing n few) in
-      accepts-bind _ (ap (λ (l : List ℕ). readKind 0xA3 (window n) (length l) [] l) (sym (append-nil file))
-      ∙ kind-forth (window n) 0xA3 windowBody (WindowIn n) (window-framing n few) (length (file ++ [])) [] (f .windows) [] (omega arith) (ok .windows) ends)
+      let windows = joined windowText (f .windows) in
+      let rests = joined restText (f .rests) in
+      ap (λ (l : List ℕ). readFurther n (windows ++ l)) (sym (append-nil rests))
+      ∙ accepts-bind _ (kind-forth _ _ _ _ (window-framing n few) (length (windows ++ (rests ++ []))) [] (f .windows) (rests ++ []) (omega arith) (ok .windows)
+      (later-lines _ _ _ _ rest-framing 0xA3 (omega arith) [] (f .rests) [] (ok .rests) (inl refl)))
+      ∙ accepts-bind _ (kind-forth _ _ _ _ rest-framing (length (rests ++ [])) [] (f .rests) [] (omega arith) (ok .rests) (inl refl))
 
   -- read, they are what is written
-  further-back : (file : List ℕ) (f : Further) → readFurther n file ≡ accept f → (furtherText f ≡ file) × FurtherOk n few f
-  unfolding readFurther furtherText windowText
+  further-back : (file : List ℕ) (f : Further) → readFurther n file ≡ accept f → (furtherText f ≡ file) × FurtherOk n f
+  unfolding readFurther furtherText windowText restText
   further-back file f e =
       let r = bind-accepts (readKind 0xA3 (window n) (length file) [] file) _ f e in
-      let s = bind-accepts (nothingLeft (r .0 .1)) _ f (r .2) in
-      let k = kind-back (window n) 0xA3 windowBody (WindowIn n) (window-framing n few) (length file) [] file (r .0) (r .1) in
-      subst (λ (f : Further). (furtherText f ≡ file) × FurtherOk n few f) (accept-eq (s .2)) (
-        ap (joined windowText) (k .is) ∙ sym (append-nil (joined windowText (k .more)))
-            ∙ ap (λ (l : List ℕ). joined windowText (k .more) ++ l) (sym (left-nothing (r .0 .1) (s .1))) ∙ k .written,
-        record { windows = subst (EachWindow n few []) (sym (k .is)) (k .each) },
+      let s = bind-accepts (readKind 0xA4 rest (length (r .0 .1)) [] (r .0 .1)) _ f (r .2) in
+      let t = bind-accepts (nothingLeft (s .0 .1)) _ f (s .2) in
+      let k = kind-back _ _ _ _ (window-framing n few) (length file) [] file (r .0) (r .1) in
+      let l = kind-back _ _ _ _ rest-framing (length (r .0 .1)) [] (r .0 .1) (s .0) (s .1) in
+      subst (λ (f : Further). (furtherText f ≡ file) × FurtherOk n f) (accept-eq (t .2)) (
+        ap₂ (λ (ws : List WindowLine) (ls : List RestLine). joined windowText ws ++ joined restText ls) (k .is) (l .is)
+            ∙ ap (λ (x : List ℕ). joined windowText (k .more) ++ x) (sym (append-nil (joined restText (l .more))) ∙ ap (λ (x : List ℕ). joined restText (l .more) ++ x) (sym (left-nothing (s .0 .1) (t .1))) ∙ l .written)
+            ∙ k .written,
+        record { windows = subst (EachWindow n []) (sym (k .is)) (k .each); rests = subst (EachRest []) (sym (l .is)) (l .each) },
       )
 
   -- after the delays, by edition
-  rest-forth : (edition : ℕ) (f : Further) → ((edition ≡ 1) × (f ≡ noFurther)) ⊎ (edition ≡ 2) → FurtherOk n few f → readRest edition n (furtherText f) ≡ accept f
+  rest-forth : (edition : ℕ) (f : Further) → ((edition ≡ 1) × (f ≡ noFurther)) ⊎ (edition ≡ 2) → FurtherOk n f → readRest edition n (furtherText f) ≡ accept f
   unfolding readRest if_then_else_ furtherText noFurther joined isEmpty require _>>=_
   rest-forth edition f (inl (one, none)) ok = ap₂ (λ (e : ℕ) (g : Further). readRest e n (furtherText g)) one none ∙ ap accept (sym none)
   rest-forth edition f (inr two) ok = ap (λ (e : ℕ). readRest e n (furtherText f)) two ∙ further-forth f ok
 
-  rest-back : (edition : ℕ) (file : List ℕ) (f : Further) → readRest edition n file ≡ accept f → (furtherText f ≡ file) × FurtherOk n few f × (edition ≡ 1 → f ≡ noFurther)
+  rest-back : (edition : ℕ) (file : List ℕ) (f : Further) → readRest edition n file ≡ accept f → (furtherText f ≡ file) × FurtherOk n f × (edition ≡ 1 → f ≡ noFurther)
   unfolding readRest if_then_else_ furtherText noFurther joined
   rest-back edition file f e = go (eqb edition 1) refl e
     where
-      go : (t : Bool) → eqb edition 1 ≡ t → (if t then (require 8 (isEmpty file) >>= λ u. accept noFurther) else readFurther n file) ≡ accept f → (furtherText f ≡ file) × FurtherOk n few f × (edition ≡ 1 → f ≡ noFurther)
+      go : (t : Bool) → eqb edition 1 ≡ t → (if t then (require 8 (isEmpty file) >>= λ u. accept noFurther) else readFurther n file) ≡ accept f → (furtherText f ≡ file) × FurtherOk n f × (edition ≡ 1 → f ≡ noFurther)
       go true h e =
           let r = require-accepts 8 _ _ f e in
           let z = accept-eq (r .1) in
-          (ap furtherText (sym z) ∙ sym (no-more file (r .0)), subst (FurtherOk n few) z (record { windows = tt }), λ one. sym z)
+          (ap furtherText (sym z) ∙ sym (no-more file (r .0)), subst (FurtherOk n) z (record { windows = tt; rests = tt }), λ one. sym z)
       go false h e = let r = further-back file f e in (r .0, r .1, λ one. apart (sym h ∙ ap (λ (x : ℕ). eqb x 1) one))
 
 -- ---- the batch that jobs, delays and further lines make up
@@ -116,11 +124,13 @@ module _ (edition : ℕ) (jobs : List Job) (delays : List Delay) (further : Furt
   unfolding delaysOf delayOf batchOf pad
   delays-of = by-index delays (replicate (mostDelays - length delays) blankDelay) blankDelay
 
-  module _ (few : length jobs ≤ mostJobs) (ok : FurtherOk (length jobs) few further) where
+  module _ (few : length jobs ≤ mostJobs) (ok : FurtherOk (length jobs) further) where
     -- it has these further lines
     pub further-of : furtherOf made ≡ further
     unfolding furtherOf batchOf
-    further-of = ap (λ (ws : List WindowLine). record { windows = ws }) (lines-of made few (further .windows) refl (ok .windows))
+    further-of =
+        ap₂ (λ (ws : List WindowLine) (ls : List RestLine). record { windows = ws; rests = ls }) (windows-of made few (further .windows) refl (ok .windows))
+        (rests-of made (further .rests) refl (ok .rests))
 
     -- its text is that of its frames
     batch-text : batchFile made ≡ headerLine edition (length jobs) (length delays) ++ (joined jobLine jobs ++ (joined delayLine delays ++ furtherText further))
@@ -136,7 +146,8 @@ module _ (edition : ℕ) (jobs : List Job) (delays : List Delay) (further : Furt
         let delay : (q : Delay) → List·Memᴰ q (delaysOf made) → DelayOk (length jobs) q = λ q k. d q (subst (List·Memᴰ q) delays-of k) in
         record {
           edition-known = known (edition-iff edition .0 (h .0));
-          windows = lines-within made few (further .windows) refl (ok .windows);
+          windows = windows-within made few (further .windows) refl (ok .windows);
+          rests = rests-within made (further .rests) refl (ok .rests);
           counts = h .1;
           ticks-each = λ i g. job (jobOf made i) (index-in (jobOf made) (length jobs) i g) .0;
           masks-each = λ i a g k. job (jobOf made i) (index-in (jobOf made) (length jobs) i g) .1 (mask made i a) (index-in (mask made i) (ticks made i) a k);
@@ -149,14 +160,14 @@ module _ (edition : ℕ) (jobs : List Job) (delays : List Delay) (further : Furt
         known (inr e) = inr e
 
 -- both, with n and m for the numbers of jobs and delays
-by-numbers : (edition : ℕ) (jobs : List Job) (delays : List Delay) (further : Further) (n m : ℕ) → length jobs ≡ n → length delays ≡ m → (few : n ≤ mostJobs) → FurtherOk n few further → HeaderOk (edition, n, m)
+by-numbers : (edition : ℕ) (jobs : List Job) (delays : List Delay) (further : Further) (n m : ℕ) → length jobs ≡ n → length delays ≡ m → (few : n ≤ mostJobs) → FurtherOk n further → HeaderOk (edition, n, m)
     → (edition ≡ 1 → further ≡ noFurther) → ((j : Job) → List·Memᴰ j jobs → JobOk j) → ((q : Delay) → List·Memᴰ q delays → DelayOk n q)
     → LimitsOk (batchOf edition jobs delays further) × (batchFile (batchOf edition jobs delays further) ≡ headerLine edition n m ++ (joined jobLine jobs ++ (joined delayLine delays ++ furtherText further)))
 by-numbers edition jobs delays further n m p q few ok h one j d =
     subst
-    (λ (n : ℕ). (few : n ≤ mostJobs) → FurtherOk n few further → HeaderOk (edition, n, m) → ((q : Delay) → List·Memᴰ q delays → DelayOk n q) → Both n m)
+    (λ (n : ℕ). (few : n ≤ mostJobs) → FurtherOk n further → HeaderOk (edition, n, m) → ((q : Delay) → List·Memᴰ q delays → DelayOk n q) → Both n m)
     p
-    (subst (λ (m : ℕ). (few : length jobs ≤ mostJobs) → FurtherOk (length jobs) few further → HeaderOk (edition, length jobs, m) → ((q : Delay) → List·Memᴰ q delays → DelayOk (length jobs) q) → Both (length jobs) m) q
+    (subst (λ (m : ℕ). (few : length jobs ≤ mostJobs) → FurtherOk (length jobs) further → HeaderOk (edition, length jobs, m) → ((q : Delay) → List·Memᴰ q delays → DelayOk (length jobs) q) → Both (length jobs) m) q
     (λ few ok h d. (limits-of edition jobs delays further few ok h one j d, batch-text edition jobs delays further few ok)))
     few ok h d
   where

@@ -1,5 +1,5 @@
--- Edition 01 after Q-4: a file of it, and every sound record of it, has the ends 0 and 65,535, which no least start passes. So its least starts, its shortest plans
--- and whether there is a plan are 01's, as specs/First has them, and a file that does not begin with a header of edition 02 opens, or is refused, as 01 says.
+-- Edition 01 after Q-4 and Q-5: a file of it, and every sound record of it, has the ends 0 and 65,535, which no least start passes, and no station rests. So its clashes, its
+-- least starts, its shortest plans and whether there is a plan are 01's, as specs/First has them, and a file that does not begin with a header of edition 02 opens, or is refused, as 01 says.
 use Prim.Native.Nat.{ℕ, zero, suc, _+_, _*_, _≤_, _<_, pred}
 use mathlib.Core.Path.{_≡_, refl, ap, ap₂, sym, _∙_, subst}
 use mathlib.Core.Logic.{_⊎_, inl, inr, ⊎-elim, _↔_, _≢_}
@@ -13,25 +13,27 @@ use lib.ListN.{length, getD, replicate, take, length-replicate}
 use lib.IntN.{pos}
 use lib.Dec.{leb, eqb}
 use lib.Seq.{ext-getD}
-use borrow.Author.Tests.{leb-true, le-leb, eqb-true}
+use borrow.Author.Tests.{not-false, leb-true, le-leb, eqb-true}
 use Rattle.model.specs.declared.Batch.{Batch}
 use Rattle.model.specs.declared.Delay.{Delay}
 use Rattle.model.specs.declared.Job.{Job}
 use Rattle.model.specs.declared.Turn.{Turn}
 use Rattle.model.specs.declared.Search.{Search}
 use Rattle.model.specs.declared.Window.{Window}
-use Rattle.model.specs.Common.{if_then_else_, count, keep, isEmpty, isSome, Outcome, refuse, accept, _>>=_, require}
-use Rattle.model.specs.Limits.{mostJobs, mostWeight, mostClashes, mostLatency, noLatest}
-use Rattle.model.specs.Batch.{blankWindow, windowOf, lined, earliest, latest, earliestStarts, latestStarts}
+use Rattle.model.specs.Common.{if_then_else_, count, all, keep, isEmpty, isSome, Outcome, refuse, accept, _>>=_, require}
+use Rattle.model.specs.Limits.{mostJobs, stations, mostWeight, mostClashes, mostLatency, noLatest}
+use Rattle.model.specs.Batch.{blankWindow, restOf, windowOf, lined, earliest, latest, earliestStarts, latestStarts}
 use Rattle.model.specs.Plan.{start, Keeps, KeepsDelays, KeepsEnds, Valid, Shortest, latency}
 use Rattle.model.specs.Clash.{clashes}
 use Rattle.model.specs.Starts.{rounds, same, inTime, leastStarts, Solution}
 use Rattle.model.specs.Search.{noClash, turned, inequalities, startsAt, firstMet, visit, next, turnsOf, placeOf, searchOf, freshSearch, node, nodesOn, nodes}
-use Rattle.model.specs.Window.{WindowLine, windowLine, windowLines, windowIn, windowsOf, endsOk, windowOk}
+use Rattle.model.specs.Numbered.{placeIn}
+use Rattle.model.specs.Window.{windowLine, windowLines, windowIn, windowsOf, endsOk, windowOk}
+use Rattle.model.specs.Rest.{rested, restLine, restLines, restIn, restsOf, WithinRests, restOk}
 use Rattle.model.specs.Format.{headerLine, furtherOf, noFurther, hasNone, Edition, Within, batchOf, blanked, BatchFile}
 use Rattle.model.specs.Line.{at, frameIs, line}
 use Rattle.model.specs.Open.{editionOk, countsOk, fewClashes, delaysMet, header, job, delay, due, readOne, readAll, readRest, readFile, openFile}
-use Rattle.model.specs.First.{Valid01, Shortest01, first01, least01, node01, nodesOn01, nodes01, met01, header01, readFile01, openFile01, Begins}
+use Rattle.model.specs.First.{Valid01, Shortest01, first01, least01, node01, nodesOn01, nodes01, few01, met01, header01, readFile01, openFile01, Begins}
 use Rattle.model.specs.All.{definitions}
 use Rattle.model.specs.Sound.{soundEdition, soundFurther, sound}
 use Rattle.model.specs.Answers.{plan, noPlan, runTold}
@@ -49,6 +51,7 @@ use Rattle.model.proofs.WindowLaws.{window-ok, window-soon}
 use Rattle.model.proofs.FinishLaws.{latency-mono, finish-latency}
 use Rattle.model.proofs.StartsLaws.{after, rounds-length, least-round, least-below, least-found, same-refl, ends-length, earliest-at, latest-at, inside-ends}
 use Rattle.model.proofs.ClashLaws.{Unmet, apart-unmet}
+use Rattle.model.proofs.RestedLaws.{NoRests, stations-first, clashes-first}
 use Rattle.model.proofs.BackLaws.{numbers}
 use Rattle.model.proofs.NodeLaws.{Fits, Named, each, all-inside, unmet-side, met-first, met-new, valid-found}
 use Rattle.model.proofs.GoodLaws.{good-named}
@@ -72,10 +75,21 @@ first-further b (inr e) one = let z : _≡_ {A = ℕ} 1 2 = sym one ∙ e in abs
 
 -- a batch that was read has every place blank, those past n too
 pub read-ends01 : (file : List ℕ) (b : Batch) → readFile file ≡ accept b → b .edition ≡ 1 → b .windows ≡ replicate mostJobs blankWindow
-unfolding noFurther blanked batchOf windowsOf windowIn count
+unfolding noFurther blanked batchOf windowsOf windowIn placeIn count
 read-ends01 file b e one =
     let (within, text, blank) = read-format file b .0 e in
     ap (λ (c : Batch). c .windows) blank ∙ ap (λ f. windowsOf (f .windows)) (first-further b (within .edition-known) one)
+
+-- and no station rests
+pub read-rests01 : (file : List ℕ) (b : Batch) → readFile file ≡ accept b → b .edition ≡ 1 → b .rests ≡ replicate stations 0
+unfolding noFurther blanked batchOf restsOf restIn placeIn count
+read-rests01 file b e one =
+    let (within, text, blank) = read-format file b .0 e in
+    ap (λ (c : Batch). c .rests) blank ∙ ap (λ f. restsOf (f .rests)) (first-further b (within .edition-known) one)
+
+pub blank-rests : (b : Batch) → b .rests ≡ replicate stations 0 → NoRests b
+unfolding restOf
+blank-rests b e s h = ap (λ (rs : List ℕ). getD rs s 0) e ∙ blanks-at stations s 0
 
 -- so every job has the ends 0 and 65,535, and every number past the jobs
 pub blank-ends : (b : Batch) → b .windows ≡ replicate mostJobs blankWindow → (i : ℕ) → NoEnds b i
@@ -88,27 +102,35 @@ blank-ends b e i =
 pub ends01 : (file : List ℕ) (b : Batch) → openFile file ≡ accept b → b .edition ≡ 1 → (b .windows ≡ replicate mostJobs blankWindow) × ((i : ℕ) → NoEnds b i)
 ends01 file b e one = let z = read-ends01 file b (open-read file b .0 e .0) one in (z, blank-ends b z)
 
--- and a sound record, of each of its jobs
-pub sound-ends01 : (b : Batch) → Passes b → b .edition ≡ 1 → (i : ℕ) → i < b .n → NoEnds b i
-unfolding soundEdition soundFurther hasNone furtherOf windowLines windowOk if_then_else_ isEmpty
-sound-ends01 b p one i h = let r = by (lined b i) without (all-each (windowOk b) (count 0 (b .n)) (p .further) here) in (without, r .0, r .1)
+-- a list of lines that is empty has none
+no-line : {A : Type 0} (line : ℕ → A) (f : ℕ → Bool) (n i : ℕ) → isEmpty (map line (keep f (count 0 n))) ≡ true → i < n → f i ≡ false
+unfolding isEmpty
+no-line {A} line f n i e h = decide (f i) (λ t. no-item (map line (keep f (count 0 n))) e (line i) (some-map line _ (some-keep f (count 0 n) (some-count 0 n i (omega arith) (omega arith)) t)))
   where
-    here : List·Memᴰ i (count 0 (b .n))
-    here = some-count 0 (b .n) i (omega arith) (omega arith)
+    no-item : (xs : List A) → isEmpty xs ≡ true → (x : A) → List·Memᴰ x xs → ⊥
+    no-item [] e x m = List·Memᴰ·not-nil m
+    no-item (y ∷ xs) e x m = apart e
 
-    none-of : isEmpty (map (windowLine b) (keep (lined b) (count 0 (b .n)))) ≡ true
-    none-of = ap (λ (x : ℕ). eqb x 2 || (eqb x 1 && isEmpty (map (windowLine b) (keep (lined b) (count 0 (b .n)))))) (sym one) ∙ p .edition
+-- and a sound record, of each of its jobs and stations
+module _ (b : Batch) (p : Passes b) (one : b .edition ≡ 1) where
+  none-of : (isEmpty (windowLines b) && isEmpty (restLines b)) ≡ true
+  unfolding soundEdition hasNone furtherOf
+  none-of = ap (λ (x : ℕ). eqb x 2 || (eqb x 1 && (isEmpty (windowLines b) && isEmpty (restLines b)))) (sym one) ∙ p .edition
 
-    no-item : (ws : List WindowLine) → isEmpty ws ≡ true → (w : WindowLine) → List·Memᴰ w ws → ⊥
-    no-item [] e w m = List·Memᴰ·not-nil m
-    no-item (v ∷ ws) e w m = apart e
+  pub sound-ends01 : (i : ℕ) → i < b .n → NoEnds b i
+  unfolding soundFurther windowLines windowOk if_then_else_
+  sound-ends01 i h = let r = by (lined b i) without (all-each (windowOk b) (count 0 (b .n)) (both _ (all (restOk b) (count 0 stations)) (p .further) .0) (some-count 0 (b .n) i (omega arith) (omega arith))) in (without, r .0, r .1)
+    where
+      without : lined b i ≡ false
+      without = no-line (windowLine b) (lined b) (b .n) i (both (isEmpty (windowLines b)) _ none-of .0) h
 
-    without : lined b i ≡ false
-    without = decide (lined b i) (λ e. no-item _ none-of (windowLine b i) (some-map (windowLine b) _ (some-keep (lined b) (count 0 (b .n)) here e)))
+      by : (t : Bool) → t ≡ false → (if t then endsOk (earliest b i) (latest b i) else eqb (earliest b i) 0 && eqb (latest b i) noLatest) ≡ true → (earliest b i ≡ 0) × (latest b i ≡ noLatest)
+      by true z e = apart (sym z)
+      by false z e = let r = both (eqb (earliest b i) 0) _ e in (eqb-true (earliest b i) 0 (r .0), eqb-true (latest b i) noLatest (r .1))
 
-    by : (t : Bool) → t ≡ false → (if t then endsOk (earliest b i) (latest b i) else eqb (earliest b i) 0 && eqb (latest b i) noLatest) ≡ true → (earliest b i ≡ 0) × (latest b i ≡ noLatest)
-    by true z e = apart (sym z)
-    by false z e = let r = both (eqb (earliest b i) 0) _ e in (eqb-true (earliest b i) 0 (r .0), eqb-true (latest b i) noLatest (r .1))
+  pub sound-rests01 : NoRests b
+  unfolding restLines rested
+  sound-rests01 s h = eqb-true (restOf b s) 0 (not-false _ (no-line (restLine b) (rested b) stations s (both (isEmpty (windowLines b)) _ none-of .1) h))
 
 -- ---- least starts, and plans
 
@@ -117,8 +139,8 @@ other-latest : (first last last′ : List ℕ) (qs : List Delay) (ss : List ℕ)
 unfolding leastStarts if_then_else_
 other-latest first last last′ qs ss e h = let r = least-round first last qs ss e in rw (r .0, r .1, same-refl ss, h)
 
--- of a batch within the limits whose jobs have no ends
-module _ (b : Batch) (fits : Fits b) (no-ends : (i : ℕ) → i < b .n → NoEnds b i) where
+-- of a batch within the limits whose jobs have no ends and whose stations have no rest
+module _ (b : Batch) (fits : Fits b) (no-ends : (i : ℕ) → i < b .n → NoEnds b i) (no-rests : NoRests b) where
   -- rounds begin at 0
   begin-0 : earliestStarts b ≡ first01 (b .n)
   unfolding first01
@@ -170,7 +192,7 @@ module _ (b : Batch) (fits : Fits b) (no-ends : (i : ℕ) → i < b .n → NoEnd
     unfolding turned Unmet
     side k h =
         let c = getD (clashes b) k noClash in
-        ⊎-elim (λ g. (0, g)) (λ g. (1, g)) (unmet-side us c (apart-unmet b us (v .stations) c (getD-in (clashes b) k noClash h)))
+        ⊎-elim (λ g. (0, g)) (λ g. (1, g)) (unmet-side us c (apart-unmet b us (stations-first b no-rests us .1 (v .stations)) c (getD-in (clashes b) k noClash h)))
 
     -- turns that it keeps, on each of the first k clashes
     record Sides (k : ℕ) : Type 0 where
@@ -252,9 +274,9 @@ module _ (b : Batch) (fits : Fits b) (no-ends : (i : ℕ) → i < b .n → NoEnd
   pub plain-valid : (ts : List ℕ) → Valid b ts ↔ (Valid01 b ts × ((i : ℕ) → i < b .n → start ts i ≤ noLatest))
   unfolding KeepsEnds
   plain-valid ts = (
-    λ v. (record { starts = v .starts; delays = v .delays; stations = v .stations }, λ i h. omega (arith, v .ends i h .1, no-ends i h .2)),
+    λ v. (record { starts = v .starts; delays = v .delays; stations = stations-first b no-rests ts .0 (v .stations) }, λ i h. omega (arith, v .ends i h .1, no-ends i h .2)),
     λ (v, low).
-        record { starts = v .starts; delays = v .delays; stations = v .stations; ends = λ i h. (omega (arith, no-ends i h .1), omega (arith, low i h, no-ends i h .2)) },
+        record { starts = v .starts; delays = v .delays; stations = stations-first b no-rests ts .1 (v .stations); ends = λ i h. (omega (arith, no-ends i h .1), omega (arith, low i h, no-ends i h .2)) },
   )
 
   -- shortest is 01's shortest
@@ -282,7 +304,7 @@ module _ (b : Batch) (fits : Fits b) (no-ends : (i : ℕ) → i < b .n → NoEnd
 
 module _ (b : Batch) (passes : Passes b) (one : b .edition ≡ 1) where
   pub starts01 : (ts : List Turn) → Named b ts → startsAt (clashes b) b ts ≡ least01 (b .n) (inequalities (clashes b) b ts)
-  starts01 = plain-starts b (passes-fit b passes) (sound-ends01 b passes one)
+  starts01 = plain-starts b (passes-fit b passes) (sound-ends01 b passes one) (sound-rests01 b passes one)
 
   -- so each node is 01's, and so are the records that any number of nodes reach
   node-first : (s : Search) → SoundAt b passes s → node (clashes b) s ≡ node01 (clashes b) s
@@ -306,21 +328,24 @@ module _ (b : Batch) (passes : Passes b) (one : b .edition ≡ 1) where
 
   -- the latest start never matters: no least start passes 23,000
   pub bound01 : (ts : List Turn) → Named b ts → (ss : List ℕ) → startsAt (clashes b) b ts ≡ some ss → (j : ℕ) → start ss j ≤ 23000
-  bound01 ts named ss e = plain-bound b (passes-fit b passes) (sound-ends01 b passes one) ts named ss (sym (starts01 ts named) ∙ e)
+  bound01 ts named ss e = plain-bound b (passes-fit b passes) (sound-ends01 b passes one) (sound-rests01 b passes one) ts named ss (sym (starts01 ts named) ∙ e)
 
   pub valid01 : (ts : List ℕ) → Valid b ts ↔ (Valid01 b ts × ((i : ℕ) → i < b .n → start ts i ≤ noLatest))
-  valid01 = plain-valid b (passes-fit b passes) (sound-ends01 b passes one)
+  valid01 = plain-valid b (passes-fit b passes) (sound-ends01 b passes one) (sound-rests01 b passes one)
 
   pub shortest01 : (ts : List ℕ) → Shortest b ts ↔ Shortest01 b ts
-  shortest01 = plain-shortest b (passes-fit b passes) (sound-ends01 b passes one)
+  shortest01 = plain-shortest b (passes-fit b passes) (sound-ends01 b passes one) (sound-rests01 b passes one)
 
   pub none01 : ((ts : List ℕ) → ¬ Valid b ts) ↔ ((ts : List ℕ) → ¬ Valid01 b ts)
-  none01 = plain-none b (passes-fit b passes) (sound-ends01 b passes one)
+  none01 = plain-none b (passes-fit b passes) (sound-ends01 b passes one) (sound-rests01 b passes one)
 
 -- a search of edition 01 is 01's search, from any sound record on
 pub search01 : (s : Search) → sound s ≡ true → s .batch .edition ≡ 1 → (k : ℕ) → nodes k s ≡ nodes01 k s
 unfolding nodes nodes01
-search01 s e one k = let p = record-passes s e in nodes-first (s .batch) p one k s (sound-at (s .batch) p s refl e .0)
+search01 s e one k =
+    let p = record-passes s e in
+    nodes-first (s .batch) p one k s (sound-at (s .batch) p s refl e .0)
+    ∙ ap (λ cs. nodesOn01 cs k s) (clashes-first (s .batch) (sound-rests01 (s .batch) p one) (passes-fit (s .batch) p .short))
 
 -- ---- opening
 
@@ -391,7 +416,7 @@ first-edition file b e =
     ap (λ (c : Batch). c .edition) (sym (accept-eq (require-accepts 8 _ _ b (t .2) .1)))
 
 within-fits : (b : Batch) → Within b → fewClashes b ≡ true → Fits b
-unfolding fewClashes
+unfolding fewClashes WithinRests
 within-fits b w few =
     record {
       jobs = w .jobs .1;
@@ -399,8 +424,16 @@ within-fits b w few =
       inside = λ q m. let e = w .jobs-each q m in (e .0, e .1);
       slow = λ q m. leZ-iff (q .weight) (pos mostWeight) .1 (w .weight-each q m .1);
       soon = λ i h. window-soon b i (window-ok b (w .windows) i h);
+      rests = w .rests;
       few = leb-true (length (clashes b)) mostClashes few;
     }
+
+-- 9 is 01's: so many clashes
+few-first01 : (file : List ℕ) (b : Batch) → readFile file ≡ accept b → b .edition ≡ 1 → fewClashes b ≡ few01 b
+unfolding fewClashes few01
+few-first01 file b e one =
+    let within = read-format file b .0 e .0 in
+    ap (λ cs. leb (length cs) mostClashes) (clashes-first b (blank-rests b (read-rests01 file b e one)) (λ i h. within .ticks-each i h .1))
 
 -- 10 is 01's: the delays can be met
 met-first01 : (file : List ℕ) (b : Batch) → readFile file ≡ accept b → b .edition ≡ 1 → fewClashes b ≡ true → delaysMet b ≡ met01 b
@@ -408,7 +441,7 @@ unfolding delaysMet met01 startsAt inequalities Named
 met-first01 file b e one few =
     let within = read-format file b .0 e .0 in
     let no-ends : (i : ℕ) → i < b .n → NoEnds b i = λ i h. blank-ends b (read-ends01 file b e one) i in
-    rw append-nil at (ap isSome (plain-starts b (within-fits b within few) no-ends [] (each-nil (λ (t : Turn). t .clash < length (clashes b)))))
+    rw append-nil at (ap isSome (plain-starts b (within-fits b within few) no-ends (blank-rests b (read-rests01 file b e one)) [] (each-nil (λ (t : Turn). t .clash < length (clashes b)))))
 
 -- the rest opens, or is refused, as 01 says
 pub open-first : (file : List ℕ) → ¬ Begins 2 file → openFile file ≡ openFile01 file
@@ -418,9 +451,9 @@ open-first file other =
     ∙ bind-same (readFile01 file) _ _ (λ b e. by b (read-first file other ∙ e) (first-edition file b e) (fewClashes b) refl)
   where
     by : (b : Batch) → readFile file ≡ accept b → b .edition ≡ 1 → (t : Bool) → fewClashes b ≡ t
-        → (require 9 (fewClashes b) >>= λ u. require 10 (delaysMet b) >>= λ v. accept b) ≡ (require 9 (fewClashes b) >>= λ u. require 10 (met01 b) >>= λ v. accept b)
-    by b e one true h = rw (met-first01 file b e one h)
-    by b e one false h = rw h
+        → (require 9 (fewClashes b) >>= λ u. require 10 (delaysMet b) >>= λ v. accept b) ≡ (require 9 (few01 b) >>= λ u. require 10 (met01 b) >>= λ v. accept b)
+    by b e one true h = rw (sym (few-first01 file b e one), met-first01 file b e one h)
+    by b e one false h = rw (sym (few-first01 file b e one), h)
 
 -- ---- a file that begins with a header of some edition
 
@@ -459,7 +492,7 @@ module _ (file : List ℕ) (edition n m : ℕ) (rest : List ℕ) (byte : edition
 
   passed-3 : editionOk edition ≡ true → openFile file ≡ refuse 3 → ⊥
   passed-3 h z =
-      only-open not-3 file (λ y. omega arith) (λ y. omega arith) (header-known h) (λ edition n m rest h. (λ one y. omega arith, λ two y. omega arith)) .number 3 z refl
+      only-open not-3 file (λ y. omega arith) (λ y. omega arith) (header-known h) (λ edition n m rest h. (λ one y. omega arith, λ two. record { n20 = λ y. omega arith; n21 = λ y. omega arith })) .number 3 z refl
 
 -- refusal 3 means neither edition
 pub open-3 : (file : List ℕ) (edition : ℕ) → edition < 256 → Begins edition file → (openFile file ≡ refuse 3) ↔ ((edition ≢ 1) × (edition ≢ 2))
@@ -507,7 +540,7 @@ pub counts-02 : (openFile (headerLine 2 0 0) ≡ refuse 4) × (openFile01 (heade
 unfolding definitions
 counts-02 = (refl, refl)
 
--- ---- 8 is for edition 01 only, and 20 for 02
+-- ---- 8 is for edition 01 only, and 20 and 21 for 02
 
 -- a header that is read stands at the beginning of the file
 header-begins : (file : List ℕ) (edition n m : ℕ) (rest : List ℕ) → readOne header file ≡ accept ((edition, n, m), rest) → Begins edition file × ((edition ≡ 1) ⊎ (edition ≡ 2))
@@ -519,35 +552,44 @@ header-begins file edition n m rest e =
 
 module _ (file : List ℕ) where
   abbrev ByEdition : ℕ → Type 0
-  ByEdition k = (k ≡ 8 → Begins 1 file) × (k ≡ 20 → Begins 2 file)
+  ByEdition k = (k ≡ 8 → Begins 1 file) × ((k ≡ 20) ⊎ (k ≡ 21) → Begins 2 file)
+
+  -- a number that is neither
+  other : (k : ℕ) → ¬ (k ≡ 8) → ¬ (k ≡ 20) → ¬ (k ≡ 21) → ByEdition k
+  other k n8 n20 n21 = (λ z. absurd (n8 z), λ z. absurd (⊎-elim n20 n21 z))
 
   in-both : InLines ByEdition
   in-both =
       record {
-        n1 = (λ z. absurd (omega arith), λ z. absurd (omega arith));
-        n2 = (λ z. absurd (omega arith), λ z. absurd (omega arith));
-        n4 = (λ z. absurd (omega arith), λ z. absurd (omega arith));
-        n5 = (λ z. absurd (omega arith), λ z. absurd (omega arith));
-        n6 = (λ z. absurd (omega arith), λ z. absurd (omega arith));
-        n7 = (λ z. absurd (omega arith), λ z. absurd (omega arith));
+        n1 = other 1 (λ z. omega arith) (λ z. omega arith) (λ z. omega arith);
+        n2 = other 2 (λ z. omega arith) (λ z. omega arith) (λ z. omega arith);
+        n4 = other 4 (λ z. omega arith) (λ z. omega arith) (λ z. omega arith);
+        n5 = other 5 (λ z. omega arith) (λ z. omega arith) (λ z. omega arith);
+        n6 = other 6 (λ z. omega arith) (λ z. omega arith) (λ z. omega arith);
+        n7 = other 7 (λ z. omega arith) (λ z. omega arith) (λ z. omega arith);
       }
 
   by-edition : Only ByEdition (openFile file)
   by-edition =
-      only-open in-both file (λ z. absurd (omega arith), λ z. absurd (omega arith)) (λ z. absurd (omega arith), λ z. absurd (omega arith))
-      (only-first in-both (λ z. absurd (omega arith), λ z. absurd (omega arith)) file) (λ edition n m rest e.
-      let h = header-begins file edition n m rest e in
-      (λ one. (λ z. subst (λ (x : ℕ). Begins x file) one (h .0), λ z. absurd (omega arith)), λ other. (λ z. absurd (omega arith), λ z. two edition other h)))
+      only-open in-both file (other 9 (λ z. omega arith) (λ z. omega arith) (λ z. omega arith)) (other 10 (λ z. omega arith) (λ z. omega arith) (λ z. omega arith))
+      (only-first in-both (other 3 (λ z. omega arith) (λ z. omega arith) (λ z. omega arith)) file) (λ edition n m rest e.
+      let h = header-begins file edition n m rest e in (
+        λ one. (λ z. subst (λ (x : ℕ). Begins x file) one (h .0), λ z. absurd (⊎-elim (λ (y : 8 ≡ 20). omega arith) (λ (y : 8 ≡ 21). omega arith) z)),
+        λ two. record { n20 = (λ z. absurd (omega arith), λ z. second edition two h); n21 = (λ z. absurd (omega arith), λ z. second edition two h) },
+      ))
     where
-      two : (edition : ℕ) → ¬ (edition ≡ 1) → Begins edition file × ((edition ≡ 1) ⊎ (edition ≡ 2)) → Begins 2 file
-      two edition other (h, inl e) = absurd (other e)
-      two edition other (h, inr e) = subst (λ (x : ℕ). Begins x file) e h
+      second : (edition : ℕ) → ¬ (edition ≡ 1) → Begins edition file × ((edition ≡ 1) ⊎ (edition ≡ 2)) → Begins 2 file
+      second edition two (h, inl e) = absurd (two e)
+      second edition two (h, inr e) = subst (λ (x : ℕ). Begins x file) e h
 
   pub refused-8 : openFile file ≡ refuse 8 → Begins 1 file
   refused-8 e = by-edition .number 8 e .0 refl
 
   pub refused-20 : openFile file ≡ refuse 20 → Begins 2 file
-  refused-20 e = by-edition .number 20 e .1 refl
+  refused-20 e = by-edition .number 20 e .1 (inl refl)
+
+  pub refused-21 : openFile file ≡ refuse 21 → Begins 2 file
+  refused-21 e = by-edition .number 21 e .1 (inr refl)
 
 -- ---- what a search of a file of edition 01 answers, after every list of runs: 01's shortest plan, or that 01 has none
 

@@ -24,6 +24,7 @@ use Rattle.model.specs.Starts.{same}
 use Rattle.model.specs.Search.{noClash, met, firstMet, freshSearch}
 use Rattle.model.specs.Line.{line, two, four}
 use Rattle.model.specs.Format.{BatchFile}
+use Rattle.model.specs.Rest.{WithinRests}
 use Rattle.model.specs.Open.{openFile}
 use Rattle.model.specs.Sound.{soundBatch, soundPath, soundBest, sound}
 use Rattle.model.specs.Text.{planLines, planText}
@@ -79,7 +80,7 @@ met-none cs ts h = go (firstMet cs ts 0) refl h
 module _ (file : List ℕ) (b : Batch) (f : BatchFile file b) (c : Claim) (jobs : RightJobs b c) where
   -- the tests of delays, ends, clashes and latency are those of ticks and stations
   pub plan-iff : (planRight b c ≡ true) ↔ RightPlan b c
-  unfolding planRight valid RightPlan KeepsDelays Keeps keeps KeepsEnds keepsEnds Unmet
+  unfolding planRight valid RightPlan KeepsDelays Keeps keeps KeepsEnds keepsEnds Unmet WithinRests
   plan-iff = (there, back)
     where
       ts : List ℕ
@@ -94,7 +95,7 @@ module _ (file : List ℕ) (b : Batch) (f : BatchFile file b) (c : Claim) (jobs 
               starts = starts-length b c jobs;
               delays = λ q m. leZ-iff _ _ .0 (all-each (keeps ts) (delaysOf b) (t .0) m);
               ends = λ i h. between-iff _ _ _ .0 (all-each (λ i. between (earliest b i) (start ts i) (latest b i)) (count 0 (b .n)) (t .1) (some-count 0 (b .n) i (omega arith) (omega arith)));
-              stations = unmet-apart b ts (λ i h. f .within .ticks-each i h .1) (met-none (clashes b) ts (s .1));
+              stations = unmet-apart b ts (λ i h. f .within .ticks-each i h .1) (f .within .rests) (met-none (clashes b) ts (s .1));
             },
             eqb-true _ _ (r .1),
           )

@@ -15,6 +15,7 @@ use Rattle.model.specs.Common.{between}
 use Rattle.model.specs.Limits.{mostJobs, mostDelays, mostTicks, mostWeight}
 use Rattle.model.specs.Batch.{ticks, mask, delaysOf}
 use Rattle.model.specs.Window.{WithinWindows}
+use Rattle.model.specs.Rest.{WithinRests}
 use Rattle.model.specs.Format.{Edition, Within}
 use Rattle.model.specs.Open.{editionOk, countsOk, ticksOk, jobsOk, weightOk}
 use Rattle.model.proofs.BoolLaws.{both, and, T-true, true-T}
@@ -90,6 +91,7 @@ weight-iff q =
 pub record LimitsOk (b : Batch) : Type 0 where
   pub edition-known : Edition b
   pub windows : WithinWindows b
+  pub rests : WithinRests b
   pub counts : countsOk (b .n) (b .m) ≡ true
   pub ticks-each : (i : ℕ) → i < b .n → ticksOk (ticks b i) ≡ true
   pub masks-each : (i a : ℕ) → i < b .n → a < ticks b i → mask b i a < 65536
@@ -102,6 +104,7 @@ within-limits b w =
     record {
       edition-known = w .edition-known;
       windows = w .windows;
+      rests = w .rests;
       counts = counts-iff (b .n) (b .m) .1 (w .jobs, w .delays);
       ticks-each = λ i h. ticks-iff (ticks b i) .1 (w .ticks-each i h);
       masks-each = w .masks-each;
@@ -116,6 +119,7 @@ limits-within b l =
     record {
       edition-known = l .edition-known;
       windows = l .windows;
+      rests = l .rests;
       jobs = c .0;
       delays = c .1;
       ticks-each = λ i h. ticks-iff (ticks b i) .0 (l .ticks-each i h);

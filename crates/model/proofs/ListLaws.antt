@@ -104,6 +104,27 @@ module _ {A : Type 0} where
         go (inl q) rec = Memᴰ·append-left (joined f xs) (rw q at k)
         go (inr n) rec = Memᴰ·append-right (f x) (rec n)
 
+-- lists that agree on each item
+pub joined-cong : {A B : Type 0} (f g : A → List B) (xs : List A) → ((x : A) → List·Memᴰ x xs → f x ≡ g x) → joined f xs ≡ joined g xs
+unfolding joined
+joined-cong f g [] h = refl
+joined-cong f g (x ∷ xs) h = rw (h x (List·Memᴰ·head refl), joined-cong f g xs (λ y m. h y (List·Memᴰ·tail m)))
+
+-- what is kept of two lists
+pub keep-append : {A : Type 0} (f : A → Bool) (xs ys : List A) → keep f (xs ++ ys) ≡ keep f xs ++ keep f ys
+unfolding keep if_then_else_
+keep-append f [] ys = refl
+keep-append f (x ∷ xs) ys = go (f x) (keep-append f xs ys)
+  where
+    go : (t : Bool) → keep f (xs ++ ys) ≡ keep f xs ++ keep f ys → (if t then x ∷ keep f (xs ++ ys) else keep f (xs ++ ys)) ≡ (if t then x ∷ keep f xs else keep f xs) ++ keep f ys
+    go true e = rw e
+    go false e = e
+
+pub keep-none : {A : Type 0} (f : A → Bool) (xs : List A) → ((x : A) → List·Memᴰ x xs → f x ≡ false) → keep f xs ≡ []
+unfolding keep if_then_else_
+keep-none f [] h = refl
+keep-none f (x ∷ xs) h = rw (h x (List·Memᴰ·head refl)) (keep-none f xs (λ y m. h y (List·Memᴰ·tail m)))
+
 -- x is one of a, .., a + k − 1
 pub count-some : (a k x : ℕ) → List·Memᴰ x (count a k) → (a ≤ x) × (x < a + k)
 unfolding count

@@ -17,8 +17,8 @@ use Rattle.model.specs.declared.Turn.{Turn}
 use Rattle.model.specs.declared.Best.{Best}
 use Rattle.model.specs.declared.Best.the-variants.{Nothing, Latency}
 use Rattle.model.specs.Common.{if_then_else_, eqZ}
-use Rattle.model.specs.Limits.{mostJobs, mostTicks, mostClashes, mostWeight, mostEarliest}
-use Rattle.model.specs.Batch.{ticks, delaysOf, earliest, earliestStarts, latestStarts}
+use Rattle.model.specs.Limits.{mostJobs, mostTicks, stations, mostClashes, mostWeight, mostEarliest, mostRest}
+use Rattle.model.specs.Batch.{ticks, delaysOf, restOf, earliest, earliestStarts, latestStarts}
 use Rattle.model.specs.Plan.{start, Keeps, KeepsDelays, Valid, latency}
 use Rattle.model.specs.Clash.{Clash, clashes}
 use Rattle.model.specs.Search.{Incumbent, Place, noClash, sideOf, turned, inequalities, startsAt, met, firstMet, turnedBack, backTo, back, prunes, becomeBest, branch, visit, next}
@@ -40,6 +40,7 @@ pub record Fits (b : Batch) : Type 0 where
   pub inside : (q : Delay) → List·Memᴰ q (delaysOf b) → (q .from < b .n) × (q .to < b .n)
   pub slow : (q : Delay) → List·Memᴰ q (delaysOf b) → leZ (q .weight) (pos mostWeight) ≡ true
   pub soon : (i : ℕ) → i < b .n → earliest b i ≤ mostEarliest
+  pub rests : (s : ℕ) → s < stations → restOf b s ≤ mostRest
   pub few : length (clashes b) ≤ mostClashes
 
 -- the turns are on listed clashes
@@ -144,7 +145,7 @@ module _ (b : Batch) (fits : Fits b) where
         starts = at-length ts ss e;
         delays = λ q m. at-solved ts names ss e .keeps q (Memᴰ·append-left (map (turned (clashes b)) ts) m);
         ends = solved-ends b (inequalities (clashes b) b ts) ss (at-solved ts names ss e);
-        stations = unmet-apart b ss (fits .short) (unmet-all (clashes b) ss 0 f);
+        stations = unmet-apart b ss (fits .short) (fits .rests) (unmet-all (clashes b) ss 0 f);
       }
 
   -- a valid plan that keeps the turns keeps the node's inequalities and the ends, so that there are least starts, no later than the plan

@@ -17,7 +17,7 @@ use Rattle.model.specs.declared.Best.{Best}
 use Rattle.model.specs.declared.Best.the-variants.{Nothing, Latency}
 use Rattle.model.specs.declared.Search.{Search}
 use Rattle.model.specs.Common.{all, count, isSome, Outcome, refuse, accept, _>>=_, require}
-use Rattle.model.specs.Limits.{mostClashes, mostStart, mostLatency}
+use Rattle.model.specs.Limits.{stations, mostClashes, mostStart, mostLatency}
 use Rattle.model.specs.Batch.{ticks, delaysOf, earliestStarts, latestStarts}
 use Rattle.model.specs.Plan.{start, KeepsDelays, KeepsEnds, Valid, Shortest, latency}
 use Rattle.model.specs.Clash.{clashes}
@@ -26,13 +26,14 @@ use Rattle.model.specs.Search.{placeOf, freshPlace, freshSearch, nodes, 
 use Rattle.model.specs.Format.{Within, batchFile, BatchFile}
 use Rattle.model.specs.Open.{countsOk, ticksOk, jobsOk, weightOk, fewClashes, delaysMet, readFile, openFile, openedAs, opened}
 use Rattle.model.specs.Window.{windowOk}
+use Rattle.model.specs.Rest.{restOk}
 use Rattle.model.specs.Sound.{soundEdition, soundFurther, soundBatch, soundBest, sound}
 use Rattle.model.specs.Run.{runRefusal, ran}
 use Rattle.model.specs.Text.{planLines, planText, batchText}
 use Rattle.model.specs.Answers.{Verdict, spent, plan, noPlan, runTold, verdictOf, openTold, bestTold}
 use Rattle.model.specs.Calls.{Call, call, after, refuses, granted}
 use Rattle.model.specs.Demands.{RunLeaves, PlanWith, Reached, AnswerFor}
-use Rattle.model.proofs.BoolLaws.{apart, both, decide}
+use Rattle.model.proofs.BoolLaws.{apart, both, and, decide}
 use Rattle.model.proofs.ListLaws.{all-each, each-all, count-some, some-count}
 use Rattle.model.proofs.OutcomeLaws.{refused, accept-eq, accepts-bind, accepts-require, refuses-require}
 use Rattle.model.proofs.StartsLaws.{Inside, least-length, least-solution, least-found, ends-length, solved, solved-ends, inside-ends}
@@ -42,6 +43,7 @@ use Rattle.model.proofs.SoundLaws.{Passes, sound-passes, passes-sound, 
 use Rattle.model.proofs.CallLaws.{at-batch, after-fresh, list-reached, list-refused, list-answered}
 use Rattle.model.proofs.LimitLaws.{jobs-iff, within-limits}
 use Rattle.model.proofs.WindowLaws.{window-ok}
+use Rattle.model.proofs.RestLaws.{rest-ok}
 use Rattle.model.proofs.FileLaws.{read-format, open-read}
 use Rattle.model.proofs.LeaveLaws.{running-leaves}
 
@@ -140,7 +142,9 @@ file-passes file b f =
       jobs-each = each-all (jobsOk (b .n)) (delaysOf b) (l .jobs-each);
       weight-each = each-all weightOk (delaysOf b) (l .weights-each);
       edition = edition-sound b (l .edition-known);
-      further = each-all (windowOk b) (count 0 (b .n)) (λ i m. window-ok b (l .windows) i (omega (arith, count-some 0 (b .n) i m .1)));
+      further =
+          and (each-all (windowOk b) (count 0 (b .n)) (λ i m. window-ok b (l .windows) i (omega (arith, count-some 0 (b .n) i m .1))))
+          (each-all (restOk b) (count 0 stations) (λ s m. rest-ok b (l .rests) s (omega (arith, count-some 0 stations s m .1))));
       few = le-leb (length (clashes b)) mostClashes (f .few);
       met = met-starts b (within-inside b (f .within)) .1 (f .starts, f .starts-each, f .starts-keep);
     }

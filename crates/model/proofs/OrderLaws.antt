@@ -28,7 +28,7 @@ module _ {A : Type 0} (R : A → A → Type 0) where
       go y (inl m) = h .0 y m
       go y (inr m) = f x y (List·Memᴰ·head refl) m
 
-  keep-in : (f : A → Bool) (xs : List A) (y : A) → List·Memᴰ y (keep f xs) → List·Memᴰ y xs
+  pub keep-in : (f : A → Bool) (xs : List A) (y : A) → List·Memᴰ y (keep f xs) → List·Memᴰ y xs
   unfolding keep if_then_else_
   keep-in f [] y m = m
   keep-in f (x ∷ xs) y m = go (f x) m (keep-in f xs y)
@@ -72,7 +72,7 @@ unfolding count
 rising-count a zero = tt
 rising-count a (suc k) = (λ y m. omega (arith, count-some (suc a) k y m .0), rising-count (suc a) k)
 
--- k − 15 rises with k
+-- k − c rises with k
 sub-rises : (c x y : ℕ) → x < y → subℕ x c <ℤ subℕ y c
 sub-rises c x y h = record { lt = go (ltb x c) refl (ltb y c) refl }
   where
@@ -98,7 +98,7 @@ before-irrefl c (by-d e f h) = <ℤ-irrefl h
 
 rising-distances : Rising (λ d e. d <ℤ e) distances
 unfolding distances
-rising-distances = rising-map (λ x y. x < y) (λ d e. d <ℤ e) (λ k. subℕ k 15) (λ x y h. sub-rises 15 x y h) (count 0 31) (rising-count 0 31)
+rising-distances = rising-map (λ x y. x < y) (λ d e. d <ℤ e) (λ k. subℕ k 22) (λ x y h. sub-rises 22 x y h) (count 0 45) (rising-count 0 45)
 
 module _ (b : Batch) where
   pair-rising : (i j : ℕ) → Rising Before (clashesOf b i j)

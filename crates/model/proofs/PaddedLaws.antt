@@ -5,12 +5,12 @@ use mathlib.Core.Path.{_≡_, refl, ap, ap₂, sym, _∙_, subst}
 use mathlib.Core.Logic.{_↔_}
 use mathlib.Core.Bool.{Bool, true, false, _&&_, _||_, not}
 use mathlib.Core.Option.{Option, none, some}
-use mathlib.Core.List.{List, [], _∷_, _++_, map, foldr, List·Memᴰ, List·Memᴰ·head, List·Memᴰ·tail}
+use mathlib.Core.List.{List, [], _∷_, _++_, map, foldr, List·Memᴰ}
 use native.Mathlib.Omega.{arith}
 use native.Mathlib.Decide.{decLt}
 use lib.ListN.{getD, length, drop}
-use lib.IntN.{ℤ}
-use lib.Dec.{leb, eqb}
+use lib.IntN.{ℤ, subℕ, _-ℤ_}
+use lib.Dec.{T, leb, eqb}
 use Rattle.model.specs.declared.Delay.{Delay}
 use Rattle.model.specs.declared.Job.{Job}
 use Rattle.model.specs.declared.Turn.{Turn}
@@ -18,9 +18,9 @@ use Rattle.model.specs.declared.Batch.{Batch}
 use Rattle.model.specs.declared.Search.{Search}
 use Rattle.model.specs.declared.Ran.{Ran}
 use Rattle.model.specs.Common.{between, count, all, keep, joined, isEmpty, isSome, if_then_else_, Outcome, refuse, accept, _>>=_, require}
-use Rattle.model.specs.Limits.{mostClashes, mostBudget, mostTotal}
-use Rattle.model.specs.Batch.{jobOf, ticks, mask, bit, delaysOf, earliest, latest, earliestStarts, latestStarts}
-use Rattle.model.specs.Plan.{start, Keeps, Holds, KeepsDelays, KeepsEnds, KeepsStations, Valid, stayIn, stay, finish, latency}
+use Rattle.model.specs.Limits.{stations, mostClashes, mostBudget, mostTotal}
+use Rattle.model.specs.Batch.{jobOf, ticks, mask, bit, delaysOf, restOf, earliest, latest, earliestStarts, latestStarts}
+use Rattle.model.specs.Plan.{start, Keeps, Holds, tooClose, Apart, KeepsDelays, KeepsEnds, KeepsStations, Valid, stayIn, stay, finish, latency}
 use Rattle.model.specs.Padded.{Padded, inBatch}
 use Rattle.model.specs.Clash.{Clash, clashing, distances, clashesOf, clashes}
 use Rattle.model.specs.Starts.{same, leastStarts}
@@ -33,7 +33,7 @@ use Rattle.model.specs.Text.{planLines, planText}
 use Rattle.model.specs.Answers.{openTold}
 use Rattle.model.specs.Judge.{jobsIn, startsIn, readClaim, as17, jobsRight, keeps, keepsEnds, valid, planRight, judgeText, judge, judgedAs, judged}
 use Rattle.model.proofs.BoolLaws.{same-test, T-true, true-T}
-use Rattle.model.proofs.ListLaws.{all-each, each-all, count-some}
+use Rattle.model.proofs.ListLaws.{all-each, each-all, count-some, joined-cong}
 use Rattle.model.proofs.SeqLaws.{listed-cong}
 use Rattle.model.proofs.BitLaws.{bit-none}
 use Rattle.model.proofs.FinishLaws.{last}
@@ -56,11 +56,6 @@ stay-below job job′ p q h = go (stayIn job p) refl
         side g (yes l) = omega arith
         side g (no l) = absurd (g .1 (last job′ q .past a (g .0) (omega arith)))
 
-joined-cong : {A B : Type 0} (f g : A → List B) (xs : List A) → ((x : A) → List·Memᴰ x xs → f x ≡ g x) → joined f xs ≡ joined g xs
-unfolding joined
-joined-cong f g [] h = refl
-joined-cong f g (x ∷ xs) h = rw (h x (List·Memᴰ·head refl), joined-cong f g xs (λ y m. h y (List·Memᴰ·tail m)))
-
 module _ (b b′ : Batch) (p : Padded b b′) where
   -- ---- clashes
 
@@ -76,22 +71,26 @@ module _ (b b′ : Batch) (p : Padded b b′) where
   abbrev Moves : Batch → Batch → Type 0
   Moves c c′ = (i a s : ℕ) → i < b .n → a < ticks c i → bit (mask c i a) s ≡ true → (a < ticks c′ i) × (bit (mask c′ i a) s ≡ true)
 
+  -- and every station rests as long
+  abbrev Rests : Batch → Batch → Type 0
+  Rests c c′ = (s : ℕ) → s < stations → restOf c s ≡ restOf c′ s
+
   less : Moves b′ b
   less i a s h g t = let l = kept i a h g (λ z. bit-none (mask b′ i a) s z t) in (l, ap (λ (m : ℕ). bit m s) (sym (p .same i a h l)) ∙ t)
 
   more : Moves b b′
   more i a s h g t = (omega (arith, p .longer i h), ap (λ (m : ℕ). bit m s) (p .same i a h g) ∙ t)
 
-  shared-by : (c c′ : Batch) → Moves c c′ → (i j : ℕ) (d : ℤ) → i < b .n → j < b .n → Shared c i j d → Shared c′ i j d
-  shared-by c c′ m i j d h g s =
+  shared-by : (c c′ : Batch) → Moves c c′ → Rests c c′ → (i j : ℕ) (d : ℤ) → i < b .n → j < b .n → Shared c i j d → Shared c′ i j d
+  shared-by c c′ m rests i j d h g s =
       let x = m i (s .a) (s .s) h (s .a-in) (s .first) in
       let y = m j (s .b) (s .s) g (s .b-in) (s .second) in
-      record { a = s .a; b = s .b; s = s .s; a-in = x .0; b-in = y .0; s-in = s .s-in; distance = s .distance; first = x .1; second = y .1 }
+      record { a = s .a; b = s .b; s = s .s; a-in = x .0; b-in = y .0; s-in = s .s-in; first = x .1; second = y .1; close = ap (λ (r : ℕ). tooClose r (subℕ (s .a) (s .b) -ℤ d)) (sym (rests (s .s) (s .s-in))) ∙ s .close }
 
   clashing-same : (i j : ℕ) → i < b .n → j < b .n → (d : ℤ) → clashing b′ i j d ≡ clashing b i j d
   clashing-same i j h g d =
-      same-test (clashing b′ i j d) (clashing b i j d) (λ e. shared-clashing b i j d (shared-by b′ b less i j d h g (clashing-shared b′ i j d e)))
-      (λ e. shared-clashing b′ i j d (shared-by b b′ more i j d h g (clashing-shared b i j d e)))
+      same-test (clashing b′ i j d) (clashing b i j d) (λ e. shared-clashing b i j d (shared-by b′ b less (p .rests) i j d h g (clashing-shared b′ i j d e)))
+      (λ e. shared-clashing b′ i j d (shared-by b b′ more (λ s h. sym (p .rests s h)) i j d h g (clashing-shared b i j d e)))
 
   clashes-of : (i j : ℕ) → i < b .n → j < b .n → clashesOf b′ i j ≡ clashesOf b i j
   unfolding clashesOf
@@ -129,21 +128,22 @@ module _ (b b′ : Batch) (p : Padded b b′) where
   unfolding Holds
   holds-by c c′ m ts i s x h t = let l = m i (t .0) s h (t .1) (T-true _ (t .3)) in (t .0, l .0, t .2, true-T (l .1))
 
-  valid-by : (c c′ : Batch) → Moves c′ c → c .n ≡ b .n → c′ .n ≡ c .n → delaysOf c ≡ delaysOf c′ → ((i : ℕ) → i < b .n → (earliest c′ i ≡ earliest c i) × (latest c′ i ≡ latest c i)) → (ts : List ℕ) → Valid c ts → Valid c′ ts
-  unfolding KeepsDelays KeepsEnds KeepsStations
-  valid-by c c′ m n n′ d ends ts v =
+  valid-by : (c c′ : Batch) → Moves c′ c → Rests c′ c → c .n ≡ b .n → c′ .n ≡ c .n → delaysOf c ≡ delaysOf c′ → ((i : ℕ) → i < b .n → (earliest c′ i ≡ earliest c i) × (latest c′ i ≡ latest c i)) → (ts : List ℕ) → Valid c ts → Valid c′ ts
+  unfolding KeepsDelays KeepsEnds KeepsStations Apart
+  valid-by c c′ m rests n n′ d ends ts v =
       record {
         starts = v .starts ∙ sym n′;
         delays = subst (λ (qs : List Delay). (q : Delay) → List·Memᴰ q qs → Keeps ts q) d (v .delays);
         ends = λ i h. let e = ends i (omega arith) in let k = v .ends i (omega arith) in (omega (arith, e .0, k .0), omega (arith, e .1, k .1));
-        stations = λ i j s x r l q h g.
-            v .stations i j s x r (omega arith) q (holds-by c′ c m ts i s x (omega arith) h) (holds-by c′ c m ts j s x (omega arith) g);
+        stations = λ i j r l s x y q h g near.
+            v .stations i j r (omega arith) s x y q (holds-by c′ c m ts i s x (omega arith) h) (holds-by c′ c m ts j s y (omega arith) g)
+            (subst (λ (k : ℕ). T (tooClose k (subℕ x y))) (rests s q) near);
       }
 
   pub padded-valid : (ts : List ℕ) → Valid b′ ts ↔ Valid b ts
   padded-valid ts = (
-    valid-by b′ b more (p .jobs) (sym (p .jobs)) (p .delays) (λ i h. let e = p .ends i h in (sym (e .1), sym (e .2))) ts,
-    valid-by b b′ less refl (p .jobs) (sym (p .delays)) (λ i h. let e = p .ends i h in (e .1, e .2)) ts,
+    valid-by b′ b more (λ s h. sym (p .rests s h)) (p .jobs) (sym (p .jobs)) (p .delays) (λ i h. let e = p .ends i h in (sym (e .1), sym (e .2))) ts,
+    valid-by b b′ less (p .rests) refl (p .jobs) (sym (p .delays)) (λ i h. let e = p .ends i h in (e .1, e .2)) ts,
   )
 
   -- ---- the search

@@ -13,12 +13,14 @@ use Rattle.model.specs.Common.{count, pad, accept}
 use Rattle.model.specs.Limits.{mostJobs, mostTicks}
 use Rattle.model.specs.Batch.{blankJob, jobOf, ticks, mask, delaysOf}
 use Rattle.model.specs.Window.{windowLines, windowsOf}
+use Rattle.model.specs.Rest.{restLines, restsOf}
 use Rattle.model.specs.Format.{masksOf, furtherOf, batchFile, Edition, Within, padJob, batchOf, blanked}
 use Rattle.model.specs.Padded.{Padded}
 use Rattle.model.specs.Open.{readFile}
 use Rattle.model.proofs.SeqLaws.{map-map, listed-at, listed-length, listed-cong, pad-at, pad-length}
 use Rattle.model.proofs.LimitLaws.{within-limits}
-use Rattle.model.proofs.WindowLaws.{lines-within, own-ends}
+use Rattle.model.proofs.WindowLaws.{windows-within, own-ends}
+use Rattle.model.proofs.RestLaws.{rests-within, own-rests}
 use Rattle.model.proofs.FileLaws.{FurtherOk, limits-further, jobs-of, delays-of, further-of, delays-length, file-read}
 
 -- the first p places of a padded list, padded again
@@ -56,10 +58,8 @@ module _ (b : Batch) (w : Within b) (more : ℕ → ℕ) (room : (i : ℕ) → i
   few : length (map longer (count 0 (b .n))) ≤ mostJobs
   few = omega (arith, listed-length longer (b .n), w .jobs .1)
 
-  further-ok : FurtherOk (length (map longer (count 0 (b .n)))) few (furtherOf b)
-  further-ok =
-      let own : (f : b .n ≤ mostJobs) → FurtherOk (b .n) f (furtherOf b) = λ f. limits-further b f (within-limits b w) in
-      subst (λ (n : ℕ). (f : n ≤ mostJobs) → FurtherOk n f (furtherOf b)) (sym (listed-length longer (b .n))) own few
+  further-ok : FurtherOk (length (map longer (count 0 (b .n)))) (furtherOf b)
+  further-ok = rw (listed-length longer (b .n)) (limits-further b (w .jobs .1) (within-limits b w))
 
   further-same : furtherOf padded ≡ furtherOf b
   further-same = further-of (b .edition) (map longer (count 0 (b .n))) (delaysOf b) (furtherOf b) few further-ok
@@ -96,7 +96,8 @@ module _ (b : Batch) (w : Within b) (more : ℕ → ℕ) (room : (i : ℕ) → i
   within =
       record {
         edition-known = known (w .edition-known);
-        windows = lines-within padded few (furtherOf b .windows) refl (further-ok .windows);
+        windows = windows-within padded few (furtherOf b .windows) refl (further-ok .windows);
+        rests = rests-within padded (furtherOf b .rests) refl (further-ok .rests);
         jobs = subst (λ (n : ℕ). (1 ≤ n) × (n ≤ mostJobs)) (sym n-same) (w .jobs);
         delays = omega (arith, delays-length b, w .delays);
         ticks-each = λ i h. let l : i < b .n = omega (arith, n-same) in (omega (arith, ticks-at i l, w .ticks-each i l .0), omega (arith, ticks-at i l, room i l));
@@ -129,6 +130,10 @@ module _ (b : Batch) (w : Within b) (more : ℕ → ℕ) (room : (i : ℕ) → i
   unfolding batchOf furtherOf
   windows-at = refl
 
+  rests-at : padded .rests ≡ restsOf (restLines b)
+  unfolding batchOf furtherOf
+  rests-at = refl
+
   -- so it is the padded batch, and what its file is read as
   pub every-padding : (b′ : Batch) × (readFile (batchFile b′) ≡ accept b′) × Padded b b′ × ((i : ℕ) → i < b .n → ticks b′ i ≡ ticks b i + more i)
   every-padding = (
@@ -139,6 +144,7 @@ module _ (b : Batch) (w : Within b) (more : ℕ → ℕ) (room : (i : ℕ) → i
       jobs = n-same;
       delays = delays-same;
       ends = λ i h. own-ends b (w .windows) padded windows-at i h (omega (arith, w .jobs .1));
+      rests = own-rests b padded rests-at;
       longer = λ i h. omega (arith, ticks-at i h);
       same = mask-in;
       added = λ i a h g k. mask-past i a h g;

@@ -1,4 +1,4 @@
--- The numbers that each call refuses with: opening 1 to 10 and 20, a run 11 to 14, the plan text 12, 15 or 16, the batch text 12 or 16, judging those of
+-- The numbers that each call refuses with: opening 1 to 10, 20 and 21, a run 11 to 14, the plan text 12, 15 or 16, the batch text 12 or 16, judging those of
 -- opening and 17 to 19. A chain of steps refuses only with numbers that its steps refuse with.
 use Prim.Native.Nat.{ℕ, zero, suc, _≤_}
 use mathlib.Core.Path.{_≡_, refl, sym, subst}
@@ -15,6 +15,7 @@ use borrow.Author.Tests.{eqb-true, eqb-false}
 use Rattle.model.specs.Line.{readLine, at}
 use Rattle.model.specs.Format.{noFurther}
 use Rattle.model.specs.Window.{WindowLine, window}
+use Rattle.model.specs.Rest.{RestLine, rest}
 use Rattle.model.specs.Open.{header, job, delay, due, readOne, readAll, readKind, nothingLeft, readFurther, readRest, readFile, openFile}
 use Rattle.model.specs.Run.{runRefusal}
 use Rattle.model.specs.Text.{planText, batchText, fitting}
@@ -67,6 +68,11 @@ pub record InLines (P : ℕ → Type 0) : Type 0 where
   pub n6 : P 6
   pub n7 : P 7
 
+-- and what a further line is refused with beside these
+pub record InFurther (P : ℕ → Type 0) : Type 0 where
+  pub n20 : P 20
+  pub n21 : P 21
+
 module _ {P : ℕ → Type 0} (p : InLines P) where
   only-header : P 3 → (f : List ℕ) → Only P (header f)
   unfolding header
@@ -102,6 +108,10 @@ module _ {P : ℕ → Type 0} (p : InLines P) where
   unfolding window
   only-window n20 n before f = only-after 2 _ _ (p .n2) (only-after 20 _ _ n20 (only-accept _))
 
+  only-rest-line : P 21 → (before : List RestLine) (f : List ℕ) → Only P (rest before f)
+  unfolding rest
+  only-rest-line n21 before f = only-after 2 _ _ (p .n2) (only-after 21 _ _ n21 (only-accept _))
+
   module _ {A : Type 0} (kind : ℕ) (frame : List A → List ℕ → Outcome A) (h : (before : List A) (f : List ℕ) → Only P (frame before f)) where
     only-kind : (k : ℕ) (before : List A) (file : List ℕ) → Only P (readKind kind frame k before file)
     unfolding readKind
@@ -119,23 +129,25 @@ module _ {P : ℕ → Type 0} (p : InLines P) where
   only-nothing [] = only-accept tt
   only-nothing (c ∷ cs) = only-bind _ (only-given 1 (readLine (c ∷ cs)) (p .n1)) (λ x. only-refuse (p .n2))
 
-  only-further : P 20 → (n : ℕ) (file : List ℕ) → Only P (readFurther n file)
+  only-further : InFurther P → (n : ℕ) (file : List ℕ) → Only P (readFurther n file)
   unfolding readFurther
-  only-further n20 n file =
-      only-bind _ (only-kind 0xA3 (window n) (only-window n20 n) (length file) [] file) (λ (windows, end). only-bind _ (only-nothing end) (λ u. only-accept _))
+  only-further f n file =
+      only-bind _ (only-kind 0xA3 (window n) (only-window (f .n20) n) (length file) [] file) (λ (windows, afterWindows).
+      only-bind _ (only-kind 0xA4 rest (only-rest-line (f .n21)) (length afterWindows) [] afterWindows) (λ (rests, end).
+      only-bind _ (only-nothing end) (λ u. only-accept _)))
 
   -- edition 01 with 8 after the delays, another with the numbers of further lines
-  only-rest : (edition n : ℕ) (end : List ℕ) → (edition ≡ 1 → P 8) → (¬ (edition ≡ 1) → P 20) → Only P (readRest edition n end)
+  only-rest : (edition n : ℕ) (end : List ℕ) → (edition ≡ 1 → P 8) → (¬ (edition ≡ 1) → InFurther P) → Only P (readRest edition n end)
   unfolding readRest if_then_else_
-  only-rest edition n end n8 n20 = go (eqb edition 1) refl
+  only-rest edition n end n8 further = go (eqb edition 1) refl
     where
       go : (t : Bool) → eqb edition 1 ≡ t → Only P (if t then (require 8 (isEmpty end) >>= λ u. accept noFurther) else readFurther n end)
       go true e = only-after 8 _ _ (n8 (eqb-true edition 1 e)) (only-accept _)
-      go false e = only-further (n20 (eqb-false edition 1 e)) n end
+      go false e = only-further (further (eqb-false edition 1 e)) n end
 
   -- a whole file, by what its header says
   module _ (file : List ℕ) (n9 : P 9) (n10 : P 10) (first : Only P (readOne header file))
-      (by-edition : (edition n m : ℕ) (rest : List ℕ) → readOne header file ≡ accept ((edition, n, m), rest) → (edition ≡ 1 → P 8) × (¬ (edition ≡ 1) → P 20)) where
+      (by-edition : (edition n m : ℕ) (rest : List ℕ) → readOne header file ≡ accept ((edition, n, m), rest) → (edition ≡ 1 → P 8) × (¬ (edition ≡ 1) → InFurther P)) where
     only-file : Only P (readFile file)
     unfolding readFile
     only-file =
@@ -149,7 +161,7 @@ module _ {P : ℕ → Type 0} (p : InLines P) where
     only-open = only-bind _ only-file (λ b. only-after 9 _ _ n9 (only-after 10 _ _ n10 (only-accept b)))
 
 abbrev pub OpenNumber : ℕ → Type 0
-OpenNumber k = ((1 ≤ k) × (k ≤ 10)) ⊎ (k ≡ 20)
+OpenNumber k = ((1 ≤ k) × (k ≤ 10)) ⊎ ((20 ≤ k) × (k ≤ 21))
 
 open-lines : InLines OpenNumber
 open-lines =
@@ -162,11 +174,11 @@ open-lines =
       n7 = inl (omega arith, omega arith);
     }
 
--- opening refuses with 1 to 10, or 20
+-- opening refuses with 1 to 10, 20 or 21
 pub open-refusals : (file : List ℕ) (k : ℕ) → openFile file ≡ refuse k → OpenNumber k
 open-refusals file =
     only-open open-lines file (inl (omega arith, omega arith)) (inl (omega arith, omega arith)) (only-first open-lines (inl (omega arith, omega arith)) file)
-    (λ edition n m rest e. (λ one. inl (omega arith, omega arith), λ two. inr refl)) .number
+    (λ edition n m rest e. (λ one. inl (omega arith, omega arith), λ two. record { n20 = inr (omega arith, omega arith); n21 = inr (omega arith, omega arith) })) .number
 
 -- ---- running
 

@@ -17,13 +17,14 @@ use Rattle.model.specs.declared.Batch.{Batch}
 use Rattle.model.specs.declared.Turn.{Turn}
 use Rattle.model.specs.declared.Search.{Search}
 use Rattle.model.specs.Common.{between, all, any, count, pad, isEmpty}
-use Rattle.model.specs.Limits.{mostJobs, mostDelays, mostTicks, mostWeight, mostClashes, mostStart, mostLatency, mostTotal}
+use Rattle.model.specs.Limits.{stations, mostJobs, mostDelays, mostTicks, mostWeight, mostClashes, mostStart, mostLatency, mostTotal}
 use Rattle.model.specs.Batch.{ticks, delaysOf}
 use Rattle.model.specs.Plan.{start, latency}
 use Rattle.model.specs.Clash.{Clash, clashes}
 use Rattle.model.specs.Search.{Incumbent, Place, startsAt, firstMet, becomeBest, next, empty, isTurn, turnsOf, placeOf, searchOf, node, nodesOn, nodes}
 use Rattle.model.specs.Open.{countsOk, ticksOk, jobsOk, weightOk, fewClashes, delaysMet}
 use Rattle.model.specs.Window.{windowOk}
+use Rattle.model.specs.Rest.{restOk}
 use Rattle.model.specs.Format.{Further, furtherOf, noFurther, hasNone, Edition}
 use Rattle.model.specs.Sound.{soundEdition, soundFurther, soundBatch, distinct, soundTurns, soundPath, soundBest, sound}
 use Rattle.model.proofs.BoolLaws.{apart, both, and}
@@ -31,6 +32,7 @@ use Rattle.model.proofs.ListLaws.{any-some, some-any, all-each, each-al
 use Rattle.model.proofs.StartsLaws.{Different}
 use Rattle.model.proofs.BackLaws.{numbers}
 use Rattle.model.proofs.WindowLaws.{window-soon}
+use Rattle.model.proofs.RestLaws.{rest-low}
 use Rattle.model.proofs.NodeLaws.{Fits, Named, at-length}
 use Rattle.model.proofs.GoodLaws.{GoodTurns, good-named, good-length, Good, step-next}
 use Rattle.model.proofs.BoundLaws.{starts-bound, latency-bound}
@@ -75,6 +77,7 @@ edition-sound b (inr e) = ap (λ (x : ℕ). eqb x 2 || (eqb x 1 && hasNone (furt
 pub passes-fit : (b : Batch) → Passes b → Fits b
 unfolding countsOk ticksOk jobsOk weightOk fewClashes between soundFurther
 passes-fit b p =
+    let further = both (all (windowOk b) (count 0 (b .n))) (all (restOk b) (count 0 stations)) (p .further) in
     record {
       jobs = leb-true (b .n) mostJobs (both (leb 1 (b .n)) (leb (b .n) mostJobs) (both _ (leb (b .m) mostDelays) (p .counts) .0) .1);
       short = λ i h. leb-true (ticks b i) mostTicks (both (leb 1 (ticks b i)) (leb (ticks b i) mostTicks) (all-each (λ i. ticksOk (ticks b i)) (count 0 (b .n)) (p .ticks-each) (some-count 0 (b .n) i (omega arith) (omega arith))) .1);
@@ -83,7 +86,8 @@ passes-fit b p =
           let g = both (ltb (q .from) (b .n)) (ltb (q .to) (b .n)) h in
           (ltb-true (q .from) (b .n) (g .0), ltb-true (q .to) (b .n) (g .1));
       slow = λ q m. both (leZ (negsuc (mostWeight - 1)) (q .weight)) (leZ (q .weight) (pos mostWeight)) (all-each weightOk (delaysOf b) (p .weight-each) m) .1;
-      soon = λ i h. window-soon b i (all-each (windowOk b) (count 0 (b .n)) (p .further) (some-count 0 (b .n) i (omega arith) (omega arith)));
+      soon = λ i h. window-soon b i (all-each (windowOk b) (count 0 (b .n)) (further .0) (some-count 0 (b .n) i (omega arith) (omega arith)));
+      rests = λ s h. rest-low b s (all-each (restOk b) (count 0 stations) (further .1) (some-count 0 stations s (omega arith) (omega arith)));
       few = leb-true (length (clashes b)) mostClashes (p .few);
     }
 

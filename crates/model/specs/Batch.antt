@@ -1,5 +1,5 @@
--- Batch file: the batch that the record holds, read as 01 and 02 speak of it. Edition, n jobs, job i's p masks and its ends, m delays; places
--- past them are never read.
+-- Batch file: the batch that the record holds, read as 01 and 02 speak of it. Edition, n jobs, job i's p masks and its ends, m delays, each
+-- station's rest; places past them are never read.
 use Prim.Native.Nat.{ℕ, _/_, _%_, _^_}
 use mathlib.Core.Bool.{Bool, not}
 use mathlib.Core.List.{List, map}
@@ -48,6 +48,11 @@ delayOf b k = getD (b .delays) k blankDelay
 
 unfoldable pub delaysOf : Batch → List Delay
 delaysOf b = map (delayOf b) (count 0 (b .m))
+
+-- ---- rest: how many ticks station s rests between two jobs, 0 without a line (02, Q-5)
+
+unfoldable pub restOf : Batch → ℕ → ℕ
+restOf b s = getD (b .rests) s 0
 
 -- ---- ends: each job's earliest and latest start, 0 and 65,535 without a line (02, Q-4)
 

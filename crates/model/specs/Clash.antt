@@ -2,11 +2,12 @@
 use Prim.Native.Nat.{ℕ, suc, _-_}
 use mathlib.Core.Bool.{Bool, _&&_}
 use mathlib.Core.List.{List, map}
-use lib.IntN.{ℤ, subℕ}
+use lib.IntN.{ℤ, subℕ, _-ℤ_}
 use Rattle.model.specs.declared.Batch.{Batch}
-use Rattle.model.specs.Common.{count, any, keep, joined, eqZ}
-use Rattle.model.specs.Limits.{stations}
-use Rattle.model.specs.Batch.{ticks, mask, bit}
+use Rattle.model.specs.Common.{count, any, keep, joined}
+use Rattle.model.specs.Limits.{stations, mostDistance}
+use Rattle.model.specs.Batch.{ticks, mask, bit, restOf}
+use Rattle.model.specs.Plan.{tooClose}
 
 -- (i, j, d), i below j: t_j − t_i must not be d
 pub record Clash : Type 0 where
@@ -14,18 +15,18 @@ pub record Clash : Type 0 where
   pub j : ℕ
   pub d : ℤ
 
--- some station is in both masks
-unfoldable pub meet : ℕ → ℕ → Bool
-meet m m′ = any (λ s. bit m s && bit m′ s) (count 0 stations)
+-- some station is in both masks, and ticks z apart are too close there
+unfoldable pub meet : Batch → ℤ → ℕ → ℕ → Bool
+meet b z m m′ = any (λ s. bit m s && bit m′ s && tooClose (restOf b s) z) (count 0 stations)
 
--- some station is in mask a of job i and in mask c of job j with a − c = d
+-- some station is in mask a of job i and in mask c of job j, and at distance d these ticks, a − c − d apart, are too close there
 unfoldable pub clashing : Batch → ℕ → ℕ → ℤ → Bool
 clashing b i j d =
-    any (λ a. any (λ c. eqZ (subℕ a c) d && meet (mask b i a) (mask b j c)) (count 0 (ticks b j))) (count 0 (ticks b i))
+    any (λ a. any (λ c. meet b (subℕ a c -ℤ d) (mask b i a) (mask b j c)) (count 0 (ticks b j))) (count 0 (ticks b i))
 
--- −15 to 15, rising: further apart, tables of 16 ticks do not touch
+-- −22 to 22, rising: further apart, tables of 16 ticks are more than 7 ticks apart
 unfoldable pub distances : List ℤ
-distances = map (λ k. subℕ k 15) (count 0 31)
+distances = map (λ k. subℕ k mostDistance) (count 0 45)
 
 unfoldable pub clashesOf : Batch → ℕ → ℕ → List Clash
 clashesOf b i j = map (λ d. record { i = i; j = j; d = d }) (keep (clashing b i j) distances)

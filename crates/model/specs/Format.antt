@@ -2,7 +2,7 @@
 -- batch within the limits.
 use Prim.Native.Nat.{ℕ, _-_, _≤_, _<_}
 use mathlib.Core.Path.{_≡_}
-use mathlib.Core.Bool.{Bool}
+use mathlib.Core.Bool.{Bool, _&&_}
 use mathlib.Core.Logic.{_⊎_, _≢_}
 use mathlib.Core.List.{List, [], _∷_, _++_, List·Memᴰ, map}
 use lib.ListN.{length, getD}
@@ -18,6 +18,7 @@ use Rattle.model.specs.Plan.{KeepsDelays, KeepsEnds}
 use Rattle.model.specs.Clash.{clashes}
 use Rattle.model.specs.Line.{line, two}
 use Rattle.model.specs.Window.{WindowLine, windowText, windowLines, windowsOf, WithinWindows}
+use Rattle.model.specs.Rest.{RestLine, restText, restLines, restsOf, WithinRests}
 
 -- ---- the text of a batch
 
@@ -42,15 +43,16 @@ delayLine q = line (0xA2 ∷ q .from ∷ q .to ∷ two (unsigned (q .weight)))
 unfoldable pub jobsOf : Batch → List Job
 jobsOf b = map (jobOf b) (count 0 (b .n))
 
--- the further lines (02, Q-4): a list for each kind, kinds rising
+-- the further lines (02, Q-4 and Q-5): a list for each kind, kinds rising
 pub record Further : Type 0 where
   pub windows : List WindowLine
+  pub rests : List RestLine
 
 unfoldable pub furtherOf : Batch → Further
-furtherOf b = record { windows = windowLines b }
+furtherOf b = record { windows = windowLines b; rests = restLines b }
 
 unfoldable pub furtherText : Further → List ℕ
-furtherText f = joined windowText (f .windows)
+furtherText f = joined windowText (f .windows) ++ joined restText (f .rests)
 
 unfoldable pub batchFile : Batch → List ℕ
 batchFile b =
@@ -60,10 +62,10 @@ batchFile b =
 
 -- no further lines, and the test for it
 unfoldable pub noFurther : Further
-noFurther = record { windows = [] }
+noFurther = record { windows = []; rests = [] }
 
 unfoldable pub hasNone : Further → Bool
-hasNone f = isEmpty (f .windows)
+hasNone f = isEmpty (f .windows) && isEmpty (f .rests)
 
 -- edition 01, which has no further lines, or 02
 unfoldable pub Edition : Batch → Type 0
@@ -79,6 +81,7 @@ pub record Within (b : Batch) : Type 0 where
   pub jobs-each : (q : Delay) → List·Memᴰ q (delaysOf b) → (q .from < b .n) × (q .to < b .n) × (q .from ≢ q .to)
   pub weight-each : (q : Delay) → List·Memᴰ q (delaysOf b) → (negsuc (mostWeight - 1) ≤ℤ q .weight) × (q .weight ≤ℤ pos mostWeight)
   pub windows : WithinWindows b
+  pub rests : WithinRests b
 
 -- ---- the batch that a file yields has its unused places blank
 
@@ -94,6 +97,7 @@ batchOf edition jobs delays further =
       jobs = pad mostJobs blankJob jobs;
       delays = pad mostDelays blankDelay delays;
       windows = windowsOf (further .windows);
+      rests = restsOf (further .rests);
     }
 
 unfoldable pub blanked : Batch → Batch

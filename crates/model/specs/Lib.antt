@@ -1,4 +1,4 @@
--- Document 01 as definitions, in its order, and the change requests of 02 that landed, each where what it speaks of stands. `All` unfolds them together; `Marked` has 01's marked batches.
+-- Document 01 as definitions, in its order, and the change requests of 02 that landed, each where what it speaks of stands. `All` unfolds them together; the room marked has 01's marked batches.
 pub mod Common
 pub mod Limits
 pub mod Batch
@@ -9,7 +9,9 @@ pub mod Starts
 pub mod Search
 pub mod Padded
 pub mod Line
+pub mod Numbered
 pub mod Window
+pub mod Rest
 pub mod Format
 pub mod Open
 pub mod First
@@ -22,4 +24,3 @@ pub mod Program
 pub mod Calls
 pub mod Demands
 pub mod All
-pub mod Marked

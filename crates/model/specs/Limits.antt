@@ -29,6 +29,14 @@ mostEarliest = 20000
 abbrev pub noLatest : ℕ
 noLatest = 65535
 
+-- a station rests 1 to 7 ticks where it has a line (02, Q-5)
+abbrev pub mostRest : ℕ
+mostRest = 7
+
+-- the distance of a clash is −22 to 22 (02, Q-5)
+abbrev pub mostDistance : ℕ
+mostDistance = 22
+
 -- no start passes 43,000, and no latency 43,016 (02, Q-4)
 abbrev pub mostStart : ℕ
 mostStart = 43000

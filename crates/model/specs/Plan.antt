@@ -1,17 +1,18 @@
 -- Plan and latency, by ticks and stations and with no word of clashes. A plan (a schedule) is the list of its starts.
 use Prim.Native.Nat.{ℕ, zero, suc, _+_, _≤_, _<_, max}
+use mathlib.Core.Bool.{Bool}
 use mathlib.Core.Path.{_≡_}
 use mathlib.Core.List.{List, List·Memᴰ, map, foldr}
 use lib.ListN.{getD, length}
-use lib.IntN.{subℕ}
+use lib.IntN.{ℤ, pos, negsuc, subℕ}
 use lib.Signed.{_≤ℤ_}
-use lib.Dec.{T, eqb}
+use lib.Dec.{T, leb, eqb}
 use Rattle.model.specs.declared.Delay.{Delay}
 use Rattle.model.specs.declared.Job.{Job}
 use Rattle.model.specs.declared.Batch.{Batch}
 use Rattle.model.specs.Common.{if_then_else_, count}
 use Rattle.model.specs.Limits.{stations}
-use Rattle.model.specs.Batch.{jobOf, ticks, mask, bit, delaysOf, earliest, latest}
+use Rattle.model.specs.Batch.{jobOf, ticks, mask, bit, delaysOf, restOf, earliest, latest}
 
 -- t_i of a plan
 unfoldable pub start : List ℕ → ℕ → ℕ
@@ -29,9 +30,18 @@ Holds b ts i s x = (a : ℕ) × (a < ticks b i) × (x ≡ start ts i + a) × T (
 unfoldable pub KeepsDelays : Batch → List ℕ → Type 0
 KeepsDelays b ts = (q : Delay) → List·Memᴰ q (delaysOf b) → Keeps ts q
 
--- no two jobs hold one station in the same tick
+-- two ticks with x − y = z are too close at a station with rest r: they are not more than r apart (02, Q-5). Without rest they are the same tick
+unfoldable pub tooClose : ℕ → ℤ → Bool
+tooClose r (pos k) = leb k r
+tooClose r (negsuc k) = leb (suc k) r
+
+-- a tick in which job i holds a station and one in which job j does are never too close
+unfoldable pub Apart : Batch → List ℕ → ℕ → ℕ → Type 0
+Apart b ts i j = (s x y : ℕ) → s < stations → Holds b ts i s x → Holds b ts j s y → T (tooClose (restOf b s) (subℕ x y)) → ⊥
+
+-- so it is for every two jobs; without rest, no two jobs hold one station in the same tick
 unfoldable pub KeepsStations : Batch → List ℕ → Type 0
-KeepsStations b ts = (i j s x : ℕ) → i < j → j < b .n → s < stations → Holds b ts i s x → Holds b ts j s x → ⊥
+KeepsStations b ts = (i j : ℕ) → i < j → j < b .n → Apart b ts i j
 
 -- no job starts before its earliest start or after its latest (02, Q-4)
 unfoldable pub KeepsEnds : Batch → List ℕ → Type 0

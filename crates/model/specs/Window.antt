@@ -2,14 +2,15 @@
 use Prim.Native.Nat.{ℕ, _≤_, _<_}
 use mathlib.Core.Path.{_≡_}
 use mathlib.Core.Bool.{Bool, true, false, _&&_}
-use mathlib.Core.List.{List, [], _∷_, _++_, map}
-use lib.Dec.{leb, ltb, eqb}
+use mathlib.Core.List.{List, _∷_, _++_, map}
+use lib.Dec.{leb, eqb}
 use Rattle.model.specs.declared.Window.{Window}
 use Rattle.model.specs.declared.Batch.{Batch}
-use Rattle.model.specs.Common.{if_then_else_, count, all, keep, Outcome, accept, _>>=_, require}
+use Rattle.model.specs.Common.{if_then_else_, count, keep, Outcome, accept, _>>=_, require}
 use Rattle.model.specs.Limits.{mostJobs, mostEarliest, noLatest}
 use Rattle.model.specs.Batch.{blankWindow, lined, earliest, latest}
 use Rattle.model.specs.Line.{at, wide, frameIs, line, two}
+use Rattle.model.specs.Numbered.{rises, placeIn}
 
 -- ---- the line: A3, job, earliest, latest
 
@@ -31,9 +32,11 @@ windowLines b = map (windowLine b) (keep (lined b) (count 0 (b .n)))
 
 -- ---- and the record's places for lines: a job without one has 0 and 65,535
 
+unfoldable pub windowPlace : WindowLine → Window
+windowPlace w = record { lined = 1; earliest = w .earliest; latest = w .latest }
+
 unfoldable pub windowIn : List WindowLine → ℕ → Window
-windowIn [] i = blankWindow
-windowIn (w ∷ ws) i = if eqb (w .job) i then record { lined = 1; earliest = w .earliest; latest = w .latest } else windowIn ws i
+windowIn ws i = placeIn (λ (w : WindowLine). w .job) windowPlace blankWindow ws i
 
 unfoldable pub windowsOf : List WindowLine → List Window
 windowsOf ws = map (windowIn ws) (count 0 mostJobs)
@@ -55,7 +58,7 @@ windowOk b i = if lined b i then endsOk (earliest b i) (latest b i) else eqb (ea
 
 -- below n, and above every job before it
 unfoldable pub jobRises : ℕ → List WindowLine → ℕ → Bool
-jobRises n before i = ltb i n && all (λ w. ltb (w .job) i) before
+jobRises n before i = rises (λ (w : WindowLine). w .job) n before i
 
 unfoldable pub window : ℕ → List WindowLine → List ℕ → Outcome WindowLine
 window n before f = do

@@ -27,7 +27,8 @@ pub struct Window {
     pub latest: u16,
 }
 
-// The first n jobs with their windows and the first m delays count; the other places are never looked at.
+// The first n jobs with their windows and the first m delays count; the other places are never looked at. rests[s] is how many ticks station s
+// rests between two jobs, 0 where the file has no line for it.
 #[repr(C)]
 pub struct Batch {
     pub n: u8,
@@ -36,6 +37,7 @@ pub struct Batch {
     pub jobs: [Job; 24],
     pub delays: [Delay; 128],
     pub windows: [Window; 24],
+    pub rests: [u8; 16],
 }
 
 // A branching decision: the clash's number in the batch's list, and the side that is taken.

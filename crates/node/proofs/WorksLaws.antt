@@ -1,14 +1,14 @@
 -- What the arrays of a run say once they stand for a batch and a sound place: what the callees of a node ask, and what they answer.
-use Prim.Native.Nat.{ℕ, zero, suc, _-_, _/_, _%_, _≤_, _<_}
+use Prim.Native.Nat.{ℕ, zero, suc, _/_, _%_, _≤_, _<_}
 use mathlib.Core.Path.{_≡_, refl, ap, sym, _∙_, subst}
-use mathlib.Core.Bool.{Bool, true, false, cond}
+use mathlib.Core.Bool.{true}
 use mathlib.Core.List.{List, [], _∷_, map, List·Memᴰ}
 use native.Mathlib.Omega.{arith}
 use lib.ListN.{length, getD, length-map}
-use lib.IntN.{ℤ, pos, negsuc, subℕ}
+use lib.IntN.{ℤ, pos, negsuc}
 use lib.Signed.{_≤ℤ_}
-use lib.Dec.{leb, ltb, le→leb}
-use borrow.Author.Tests.{ltb-false, leb-true}
+use lib.Dec.{leb}
+use borrow.Author.Tests.{leb-true}
 use Rattle.model.specs.declared.Batch.{Batch}
 use Rattle.model.specs.declared.Delay.{Delay}
 use Rattle.model.specs.declared.Turn.{Turn}
@@ -24,6 +24,7 @@ use Rattle.model.proofs.BoolLaws.{both}
 use Rattle.model.proofs.ListLaws.{each-item}
 use Rattle.model.proofs.SeqLaws.{listed-at, getD-in}
 use Rattle.model.proofs.LimitLaws.{counts-iff}
+use Rattle.model.proofs.DistanceLaws.{lifted-near}
 use Rattle.model.proofs.GoodLaws.{GoodTurns, Good, good-named}
 use Rattle.model.proofs.NodeLaws.{Named}
 use Rattle.model.proofs.EndLaws.{turns-path}
@@ -48,16 +49,6 @@ use Rattle.node.specs.declared.visit.Sizes.{Sizes}
 use Rattle.node.specs.Walk.{turnOf, turnsIn, Path, Coded, boundOf, placeAt}
 use Rattle.node.specs.Kit.{Kit, Trail, Works}
 use Rattle.node.proofs.PathLaws.{turns-length}
-
--- ---- distances
-
--- k − 15 for k below 31 is −15 to 15
-near : (k : ℕ) → k < 31 → (negsuc 14 ≤ℤ subℕ k 15) × (subℕ k 15 ≤ℤ pos 15)
-near k h = go (ltb k 15) refl
-  where
-    go : (p : Bool) → ltb k 15 ≡ p → (negsuc 14 ≤ℤ cond p (negsuc (15 - suc k)) (pos (k - 15))) × (cond p (negsuc (15 - suc k)) (pos (k - 15)) ≤ℤ pos 15)
-    go true e = (record { le = le→leb (15 - suc k) 14 (omega arith) }, record { le = tt })
-    go false e = (record { le = tt }, record { le = le→leb (k - 15) 15 (omega (arith, ltb-false k 15 e)) })
 
 -- ---- the place
 
@@ -108,7 +99,7 @@ module _ (b : Batch) (turns : List ℕ) (walk : Walk) (path : Path turns (walk .
   place-turns = place-good .turns
 
   place-tables : Tabled b
-  place-tables = tabled b (place-passes .counts) (place-passes .ticks-each)
+  place-tables = tabled b (place-passes .counts) (place-passes .ticks-each) (place-passes .further)
 
   place-counts : (1 ≤ b .n) × (b .n ≤ 24) × (b .m ≤ 128)
   place-counts = let r = counts-iff (b .n) (b .m) .0 (place-passes .counts) in (r .0 .0, r .0 .1, r .1)
@@ -129,12 +120,12 @@ module _ (b : Batch) (turns : List ℕ) (walk : Walk) (path : Path turns (walk .
   clash-fits k h =
       let r = ranged-at b k h place-tables in
       let l = clash-listed-at b k h in
-      let d = near (r .k) (r .k-in) in
+      let d = lifted-near (r .k) (r .k-in) in
       record {
         i = omega (arith, l .rising, l .known);
         j = l .known;
-        low = subst (λ (z : ℤ). negsuc 14 ≤ℤ z) (sym (r .distance)) (d .0);
-        high = subst (λ (z : ℤ). z ≤ℤ pos 15) (sym (r .distance)) (d .1);
+        low = subst (λ (z : ℤ). negsuc 21 ≤ℤ z) (sym (r .distance)) (d .0);
+        high = subst (λ (z : ℤ). z ≤ℤ pos 22) (sym (r .distance)) (d .1);
       }
 
   -- its code names its jobs

@@ -3,6 +3,7 @@ use mathlib.Core.Path.{_≡_, ap}
 use lib.Dec.{leb}
 use Rattle.model.specs.declared.Batch.{Batch}
 use Rattle.model.specs.Batch.{delaysOf}
+use Rattle.model.specs.Rest.{WithinRests}
 use Rattle.model.specs.Format.{Within}
 use Rattle.model.specs.Open.{jobsOk, weightOk, fewClashes}
 use Rattle.model.proofs.ListLaws.{each-all}
@@ -19,7 +20,8 @@ use Rattle.weights.specs.Delays.{DelaysSound}
 module _ (b : Batch) (w : Within b) where
   -- its clashes can be listed
   pub within-tabled : Tabled b
-  within-tabled = record { few = w .jobs .1; short = λ i l. w .ticks-each i l .1 }
+  unfolding WithinRests
+  within-tabled = record { few = w .jobs .1; short = λ i l. w .ticks-each i l .1; rests = w .rests }
 
   -- no earliest start is above 20,000
   pub within-soon : Small (earliestRead b) 20000

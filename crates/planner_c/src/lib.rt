@@ -21,13 +21,13 @@ mod replies;
 // The version of all that C sees here, a number that its name carries too: it rises whenever the record's layout, a number's meaning or a call changes
 // and when a call is added, and who was compiled for another version does not find this name.
 #[no_mangle]
-pub extern "C" fn planner_version_4() -> u32
-    ensures { λ r. ⌜ r ≡ 4 ⌝ }
+pub extern "C" fn planner_version_5() -> u32
+    ensures { λ r. ⌜ r ≡ 5 ⌝ }
 {
-    4
+    5
 }
 
-// Opens a batch file: 0 and the record of its fresh search, or the refusal, 1 to 10 or 20, which leaves the record as it was.
+// Opens a batch file: 0 and the record of its fresh search, or the refusal, 1 to 10, 20 or 21, which leaves the record as it was.
 #[no_mangle]
 pub extern "C" fn planner_open(file: &[u8], state: &mut Record) -> u8
     ensures { λ r. ⌜ (r, now (state .exit)) ≡ openedRecord (now (state .entry)) (now (file .entry)) ⌝ }

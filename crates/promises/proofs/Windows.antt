@@ -43,7 +43,7 @@ told-refused (refuse j) k = (λ e. refuse-as e, λ e. refuse-as e)
 told-refused (accept b) k = (λ e. refused (sym e), λ e. refused (sym e))
 
 module _ (file : List ℕ) where
-  told : (k : ℕ) → (openTold (opened file .answer) ≡ refuse k) ↔ (openFile file ≡ refuse k)
+  pub told : (k : ℕ) → (openTold (opened file .answer) ≡ refuse k) ↔ (openFile file ≡ refuse k)
   unfolding opened
   told = told-refused (openFile file)
 

@@ -3,3 +3,4 @@ pub mod Demands
 pub mod Judging
 pub mod Finish
 pub mod Windows
+pub mod Rests

@@ -19,7 +19,7 @@ use Rattle.reading.specs.Answer.{placeOf, nextOf}
 use Rattle.reading.specs.Read.{arrayOf, jobsTold, delaysTold, batchTold, batchWith, readEnd, readBody}
 use Rattle.reading.proofs.Tests.{refuses-bind}
 use Rattle.reading.proofs.Told.{next-refused}
-use Rattle.reading.proofs.Rest.{all-rest}
+use Rattle.reading.proofs.FileRest.{all-rest}
 
 -- ---- the answers
 

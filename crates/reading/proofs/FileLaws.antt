@@ -15,7 +15,7 @@ use Rattle.reading.specs.declared.batch.BatchRead.{BatchRead}
 use Rattle.reading.specs.Answer.{placeOf}
 use Rattle.reading.specs.Read.{firstTold, batchTold, readBody}
 use Rattle.reading.proofs.Tests.{refuses-bind}
-use Rattle.reading.proofs.Rest.{one-rest}
+use Rattle.reading.proofs.FileRest.{one-rest}
 
 -- a header that was read is within its limits
 header-limits : (f : List ℕ) (counts : ℕ × ℕ × ℕ) → header f ≡ accept counts → countsOk (counts .1) (counts .2) ≡ true

@@ -14,47 +14,70 @@ use Rattle.model.specs.declared.Opening.{Opening}
 use Rattle.model.specs.declared.Opening.the-variants.{Accepted, Refused}
 use Rattle.model.specs.Common.{if_then_else_, isEmpty, Outcome, refuse, accept, _>>=_, require, given}
 use Rattle.model.specs.Line.{readLine}
-use Rattle.model.specs.Window.{WindowLine, windowsOf, window}
+use Rattle.model.specs.Window.{windowsOf, window}
+use Rattle.model.specs.Rest.{restsOf, rest}
 use Rattle.model.specs.Format.{noFurther}
-use Rattle.model.specs.Open.{nothingLeft, readFurther, readRest}
+use Rattle.model.specs.Open.{readKind, nothingLeft, readFurther, readRest}
 use Rattle.model.proofs.OutcomeLaws.{accepts-bind, accepts-require}
+use Rattle.reading.specs.declared.Next.{Next}
 use Rattle.reading.specs.declared.Next.the-variants.{At, Refused as Stopped}
 use Rattle.reading.specs.declared.windows.WindowsRead.{WindowsRead}
+use Rattle.reading.specs.declared.rests.RestsRead.{RestsRead}
 use Rattle.reading.specs.declared.further.FurtherRead.{FurtherRead}
 use Rattle.reading.specs.declared.batch.BatchRead.{BatchRead}
-use Rattle.reading.specs.Answer.{answerOf, valueOf}
+use Rattle.reading.specs.Answer.{answerOf, valueOf, nextOf}
 use Rattle.reading.specs.Window.{readWindows, windowsTold}
+use Rattle.reading.specs.Rest.{readRests, restsTold}
 use Rattle.reading.specs.Further.{furtherTold}
 use Rattle.reading.specs.Read.{batchTold, batchWith, readEnd}
 use Rattle.reading.proofs.Tests.{refuses-bind, refuses-require}
 use Rattle.reading.proofs.Told.{answer-refused, answer-accepted, next-refused, next-at}
 use Rattle.reading.proofs.KindRest.{kind-rest}
 
--- ---- the windows, by the answer of `read_windows`
+-- ---- the lines of one kind, by the answer of the function that reads them
 
 -- the lines that were read, the place behind them, and the array that they fill
-pub record Behind (file : List ℕ) (n at place : ℕ) (array : List Window) : Type 0 where
-  pub lines : List WindowLine
-  pub is : readWindows n (drop at file) ≡ accept (lines, drop place file)
+pub record Behind {A P : Type 0} (read : Outcome (List A × List ℕ)) (array-of : List A → List P) (file : List ℕ) (place : ℕ) (array : List P) : Type 0 where
+  pub lines : List A
+  pub is : read ≡ accept (lines, drop place file)
   pub inside : place ≤ length file
-  pub filled : array ≡ windowsOf lines
+  pub filled : array ≡ array-of lines
 
-module _ (file : List ℕ) (n at : ℕ) (r : WindowsRead) (read : r ≡ windowsTold file (readWindows n (drop at file))) where
-  pub behind-refused : (k : ℕ) → r .answer ≡ Stopped k → readWindows n (drop at file) ≡ refuse k
-  unfolding windowsTold
-  behind-refused k h = next-refused file (readWindows n (drop at file)) k (sym (ap (λ (f : WindowsRead). f .answer) read) ∙ h)
+module _ {A P : Type 0} (kind : ℕ) (frame : List A → List ℕ → Outcome A) (array-of : List A → List P) (file : List ℕ) (at : ℕ) where
+  abbrev lines-from : Outcome (List A × List ℕ)
+  lines-from = readKind kind frame (length (drop at file)) [] (drop at file)
 
-  pub behind-at : (place : ℕ) → at ≤ length file → r .answer ≡ At place → Behind file n at place (r .windows)
-  unfolding windowsTold readWindows valueOf
-  behind-at place l h =
-      let g = next-at file (readWindows n (drop at file)) place (sym (ap (λ (f : WindowsRead). f .answer) read) ∙ h) in
-      let s = kind-rest 0xA3 (window n) file (length (drop at file)) [] at l (g .0) (g .1) in
+  behind-at : (next : Next) (array : List P) → next ≡ nextOf file lines-from → array ≡ array-of (valueOf ([], []) lines-from .0) → (place : ℕ) → at ≤ length file → next ≡ At place → Behind lines-from array-of file place array
+  unfolding valueOf
+  behind-at next array told filled place l h =
+      let g = next-at file lines-from place (sym told ∙ h) in
+      let s = kind-rest kind frame file (length (drop at file)) [] at l (g .0) (g .1) in
       record {
         lines = g .0 .0;
         is = g .1 ∙ ap (λ (t : List ℕ). accept (g .0 .0, t)) (s .is ∙ ap (λ (i : ℕ). drop i file) (g .2));
         inside = omega (arith, s .inside, g .2);
-        filled = ap (λ (f : WindowsRead). f .windows) read ∙ ap (λ (o : Outcome (List WindowLine × List ℕ)). windowsOf (valueOf ([], []) o .0)) (g .1);
+        filled = filled ∙ ap (λ (o : Outcome (List A × List ℕ)). array-of (valueOf ([], []) o .0)) (g .1);
       }
+
+-- windows
+module _ (file : List ℕ) (n at : ℕ) (r : WindowsRead) (read : r ≡ windowsTold file (readWindows n (drop at file))) where
+  pub windows-refused : (k : ℕ) → r .answer ≡ Stopped k → readWindows n (drop at file) ≡ refuse k
+  unfolding windowsTold
+  windows-refused k h = next-refused file (readWindows n (drop at file)) k (sym (ap (λ (f : WindowsRead). f .answer) read) ∙ h)
+
+  pub windows-at : (place : ℕ) → at ≤ length file → r .answer ≡ At place → Behind (readWindows n (drop at file)) windowsOf file place (r .windows)
+  unfolding windowsTold readWindows
+  windows-at = behind-at 0xA3 (window n) windowsOf file at (r .answer) (r .windows) (ap (λ (f : WindowsRead). f .answer) read) (ap (λ (f : WindowsRead). f .windows) read)
+
+-- rests
+module _ (file : List ℕ) (at : ℕ) (r : RestsRead) (read : r ≡ restsTold file (readRests (drop at file))) where
+  pub rests-refused : (k : ℕ) → r .answer ≡ Stopped k → readRests (drop at file) ≡ refuse k
+  unfolding restsTold
+  rests-refused k h = next-refused file (readRests (drop at file)) k (sym (ap (λ (f : RestsRead). f .answer) read) ∙ h)
+
+  pub rests-at : (place : ℕ) → at ≤ length file → r .answer ≡ At place → Behind (readRests (drop at file)) restsOf file place (r .rests)
+  unfolding restsTold readRests
+  rests-at = behind-at 0xA4 rest restsOf file at (r .answer) (r .rests) (ap (λ (f : RestsRead). f .answer) read) (ap (λ (f : RestsRead). f .rests) read)
 
 -- ---- the end of the file
 
@@ -83,18 +106,24 @@ module _ (file : List ℕ) (n at : ℕ) where
   unfolding readFurther readWindows
   further-windows k r e t = t ∙ ap furtherTold (sym (refuses-bind _ e))
 
-  module _ {place : ℕ} {array : List Window} (w : Behind file n at place array) (a : Opening) (left : a ≡ answerOf (nothingLeft (drop place file))) where
-    -- something is left
-    pub further-left : (k : ℕ) (r : FurtherRead) → a ≡ Refused k → r ≡ furtherTold (refuse k) → r ≡ furtherTold (readFurther n (drop at file))
-    unfolding readFurther readWindows
-    further-left k r h t = t ∙ ap furtherTold (sym (accepts-bind _ (w .is) ∙ refuses-bind _ (answer-refused _ k (sym left ∙ h))))
+  module _ {next : ℕ} {windows : List Window} (w : Behind (readWindows n (drop at file)) windowsOf file next windows) where
+    -- a rest is refused
+    pub further-rests : (k : ℕ) (r : FurtherRead) → readRests (drop next file) ≡ refuse k → r ≡ furtherTold (refuse k) → r ≡ furtherTold (readFurther n (drop at file))
+    unfolding readFurther readWindows readRests
+    further-rests k r e t = t ∙ ap furtherTold (sym (accepts-bind _ (w .is) ∙ refuses-bind _ e))
 
-    -- the lines of every kind
-    pub further-read : a ≡ Accepted → _≡_ {A = FurtherRead} (record { answer = Accepted; windows = array }) (furtherTold (readFurther n (drop at file)))
-    unfolding readFurther readWindows furtherTold answerOf valueOf
-    further-read h =
-        ap (λ (x : List Window). record { answer = Accepted; windows = x }) (w .filled)
-        ∙ ap furtherTold (sym (accepts-bind _ (w .is) ∙ accepts-bind _ (answer-accepted _ tt (sym left ∙ h))))
+    module _ {end : ℕ} {rests : List ℕ} (v : Behind (readRests (drop next file)) restsOf file end rests) (a : Opening) (left : a ≡ answerOf (nothingLeft (drop end file))) where
+      -- something is left
+      pub further-left : (k : ℕ) (r : FurtherRead) → a ≡ Refused k → r ≡ furtherTold (refuse k) → r ≡ furtherTold (readFurther n (drop at file))
+      unfolding readFurther readWindows readRests
+      further-left k r h t = t ∙ ap furtherTold (sym (accepts-bind _ (w .is) ∙ accepts-bind _ (v .is) ∙ refuses-bind _ (answer-refused _ k (sym left ∙ h))))
+
+      -- the lines of every kind
+      pub further-read : a ≡ Accepted → _≡_ {A = FurtherRead} (record { answer = Accepted; windows = windows; rests = rests }) (furtherTold (readFurther n (drop at file)))
+      unfolding readFurther readWindows readRests furtherTold answerOf valueOf
+      further-read h =
+          ap₂ (λ (x : List Window) (y : List ℕ). record { answer = Accepted; windows = x; rests = y }) (w .filled) (v .filled)
+          ∙ ap furtherTold (sym (accepts-bind _ (w .is) ∙ accepts-bind _ (v .is) ∙ accepts-bind _ (answer-accepted _ tt (sym left ∙ h))))
 
 -- ---- by the edition
 
@@ -125,11 +154,11 @@ module _ (file : List ℕ) (edition n at : ℕ) (first : edition ≡ 1) where
       t ∙ ap furtherTold (sym (rest-first ∙ refuses-require 8 _ (end-more (drop at file) (omega (arith, length-drop at file)))))
 
   -- nothing after it
-  pub rest-none : length file ≤ at → (windows : List Window) → windows ≡ windowsOf []
-      → _≡_ {A = FurtherRead} (record { answer = Accepted; windows = windows }) (furtherTold (readRest edition n (drop at file)))
+  pub rest-none : length file ≤ at → (windows : List Window) → windows ≡ windowsOf [] → (rests : List ℕ) → rests ≡ restsOf []
+      → _≡_ {A = FurtherRead} (record { answer = Accepted; windows = windows; rests = rests }) (furtherTold (readRest edition n (drop at file)))
   unfolding furtherTold answerOf valueOf noFurther
-  rest-none l windows e =
-      ap (λ (x : List Window). record { answer = Accepted; windows = x }) e
+  rest-none l windows e rests d =
+      ap₂ (λ (x : List Window) (y : List ℕ). record { answer = Accepted; windows = x; rests = y }) e d
       ∙ ap furtherTold (sym (rest-first ∙ accepts-require 8 _ (end-empty (drop at file) (omega (arith, length-drop at file)))))
 
 -- ---- the batch of what was read, with what follows
@@ -146,8 +175,8 @@ module _ (edition n m : ℕ) (jobs : List Job) (delays : List Delay) (rest : Lis
 
   -- the batch
   pub end-read : f .answer ≡ Accepted → (word : ℕ) → word ≡ edition
-      → _≡_ {A = BatchRead} (record { answer = Accepted; batch = record { n = n; m = m; edition = word; jobs = jobs; delays = delays; windows = f .windows } }) (batchTold (readEnd edition n m jobs delays rest))
+      → _≡_ {A = BatchRead} (record { answer = Accepted; batch = record { n = n; m = m; edition = word; jobs = jobs; delays = delays; windows = f .windows; rests = f .rests } }) (batchTold (readEnd edition n m jobs delays rest))
   unfolding readEnd batchTold batchWith furtherTold answerOf valueOf
   end-read h word e =
-      ap₂ (λ (x : ℕ) (y : List Window). record { answer = Accepted; batch = record { n = n; m = m; edition = x; jobs = jobs; delays = delays; windows = y } }) e (ap (λ (x : FurtherRead). x .windows) read)
+      ap₂ (λ (x : ℕ) (y : FurtherRead). record { answer = Accepted; batch = record { n = n; m = m; edition = x; jobs = jobs; delays = delays; windows = y .windows; rests = y .rests } }) e read
       ∙ ap batchTold (sym (accepts-bind _ (answer-accepted (readRest edition n rest) noFurther (sym answer-is ∙ h))))

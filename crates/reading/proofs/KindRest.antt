@@ -12,7 +12,7 @@ use Rattle.model.specs.Line.{readLine, at as byteOf}
 use Rattle.model.specs.Open.{readKind}
 use Rattle.model.proofs.OutcomeLaws.{accept-eq, bind-accepts, given-accepts}
 use Rattle.lines.proofs.Framed.{frame}
-use Rattle.reading.proofs.Rest.{Rest, rest-drop}
+use Rattle.reading.proofs.FileRest.{Rest, rest-drop}
 
 module _ {A : Type 0} (kind : ℕ) (f : List A → List ℕ → Outcome A) (file : List ℕ) where
   -- nothing more of the kind

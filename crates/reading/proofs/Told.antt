@@ -10,20 +10,22 @@ use Rattle.model.specs.declared.Window.{Window}
 use Rattle.model.specs.declared.Opening.the-variants.{Accepted, Refused}
 use Rattle.model.specs.Common.{Outcome, refuse, accept}
 use Rattle.model.specs.Batch.{blankJob}
-use Rattle.model.specs.Window.{WindowLine}
+use Rattle.model.specs.Window.{WindowLine, windowPlace}
+use Rattle.model.specs.Rest.{RestLine}
 use Rattle.model.specs.Format.{noFurther, batchOf}
 use Rattle.reading.specs.declared.header.Header.{Header}
 use Rattle.reading.specs.declared.header.Header.the-variants.{Counts, Refused as NoHeader}
 use Rattle.reading.specs.declared.job.JobFrame.{JobFrame}
 use Rattle.reading.specs.declared.delay.DelayFrame.{DelayFrame}
 use Rattle.reading.specs.declared.delay.DelayFrame.the-variants.{Found, Refused as NoDelay}
-use Rattle.reading.specs.declared.window.WindowFrame.{WindowFrame}
 use Rattle.reading.specs.declared.window.WindowFrame.the-variants.{Found as FoundWindow, Refused as NoWindow}
+use Rattle.reading.specs.declared.rest.RestFrame.the-variants.{Found as FoundRest, Refused as NoRest}
 use Rattle.reading.specs.declared.Next.the-variants.{At, Refused as Stopped}
 use Rattle.reading.specs.declared.batch.BatchRead.{BatchRead}
 use Rattle.reading.specs.Answer.{answerOf, valueOf, placeOf, nextOf}
 use Rattle.reading.specs.Frame.{headerTold, jobTold, delayTold}
-use Rattle.reading.specs.Window.{placed, windowTold}
+use Rattle.reading.specs.Window.{windowTold}
+use Rattle.reading.specs.Rest.{restTold}
 use Rattle.reading.specs.Read.{batchTold}
 
 -- a step that was refused, by its answer
@@ -89,16 +91,28 @@ delay-found r (refuse j) q e h = let z : _≡_ {A = ℕ} 0 1 = cc in absurd (ome
 delay-found r (accept p) q e h = let z : p ≡ q = cc in ap accept z
 
 -- a window that was refused
-pub window-refused : (r : WindowFrame) (o : Outcome WindowLine) (k : ℕ) → r ≡ windowTold o → r ≡ NoWindow k → o ≡ refuse k
+pub window-refused : (o : Outcome WindowLine) (k : ℕ) → windowTold o ≡ NoWindow k → o ≡ refuse k
 unfolding windowTold
-window-refused r (refuse j) k e h = let z : j ≡ k = cc in ap refuse z
-window-refused r (accept w) k e h = let z : _≡_ {A = ℕ} 0 1 = cc in absurd (omega arith)
+window-refused (refuse j) k h = let z : j ≡ k = cc in ap refuse z
+window-refused (accept w) k h = let z : _≡_ {A = ℕ} 0 1 = cc in absurd (omega arith)
 
 -- a window that was read: its line
-pub window-found : (r : WindowFrame) (o : Outcome WindowLine) (job : ℕ) (window : Window) → r ≡ windowTold o → r ≡ FoundWindow job window → (w : WindowLine) × (o ≡ accept w) × (w .job ≡ job) × (placed w ≡ window)
+pub window-found : (o : Outcome WindowLine) (job : ℕ) (window : Window) → windowTold o ≡ FoundWindow job window → (w : WindowLine) × (o ≡ accept w) × (w .job ≡ job) × (windowPlace w ≡ window)
 unfolding windowTold
-window-found r (refuse j) job window e h = let z : _≡_ {A = ℕ} 0 1 = cc in absurd (omega arith)
-window-found r (accept w) job window e h = (w, refl, cc, cc)
+window-found (refuse j) job window h = let z : _≡_ {A = ℕ} 0 1 = cc in absurd (omega arith)
+window-found (accept w) job window h = (w, refl, cc, cc)
+
+-- a rest that was refused
+pub rest-refused : (o : Outcome RestLine) (k : ℕ) → restTold o ≡ NoRest k → o ≡ refuse k
+unfolding restTold
+rest-refused (refuse j) k h = let z : j ≡ k = cc in ap refuse z
+rest-refused (accept l) k h = let z : _≡_ {A = ℕ} 0 1 = cc in absurd (omega arith)
+
+-- a rest that was read: its line
+pub rest-found : (o : Outcome RestLine) (station ticks : ℕ) → restTold o ≡ FoundRest station ticks → (l : RestLine) × (o ≡ accept l) × (l .station ≡ station) × (l .ticks ≡ ticks)
+unfolding restTold
+rest-found (refuse j) station ticks h = let z : _≡_ {A = ℕ} 0 1 = cc in absurd (omega arith)
+rest-found (accept l) station ticks h = (l, refl, cc, cc)
 
 -- lines that were refused, by the place behind them
 pub next-refused : {A : Type 0} (file : List ℕ) (o : Outcome (List A × List ℕ)) (k : ℕ) → nextOf file o ≡ Stopped k → o ≡ refuse k

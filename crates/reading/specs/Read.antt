@@ -9,6 +9,7 @@ use Rattle.model.specs.Common.{pad, Outcome, refuse, accept, _>>=_}
 use Rattle.model.specs.Limits.{mostJobs, mostDelays}
 use Rattle.model.specs.Batch.{blankJob, blankDelay}
 use Rattle.model.specs.Window.{windowsOf}
+use Rattle.model.specs.Rest.{restsOf}
 use Rattle.model.specs.Format.{Further, noFurther, batchOf}
 use Rattle.model.specs.Open.{job, delay, readAll, readRest}
 use Rattle.reading.specs.declared.jobs.JobsRead.{JobsRead}
@@ -43,7 +44,7 @@ batchTold o = record { answer = answerOf o; batch = valueOf (batchOf 1 [] [] noF
 -- the batch of arrays that were read and of further lines
 unfoldable pub batchWith : ℕ → ℕ → ℕ → List Job → List Delay → Further → Batch
 batchWith edition n m jobs delays further =
-    record { n = n; m = m; edition = edition; jobs = jobs; delays = delays; windows = windowsOf (further .windows) }
+    record { n = n; m = m; edition = edition; jobs = jobs; delays = delays; windows = windowsOf (further .windows); rests = restsOf (further .rests) }
 
 -- what follows the delays in a file, put beside the jobs and the delays that were read
 unfoldable pub readEnd : ℕ → ℕ → ℕ → List Job → List Delay → List ℕ → Outcome Batch

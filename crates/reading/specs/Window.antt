@@ -1,30 +1,22 @@
--- Kind A3 as it is read: the answer for a frame, what the code knows of the lines before it, and the answer for all lines of the kind.
+-- Kind A3 as it is read: a line's number, the answer for a frame, and the answer for all lines of the kind.
 use Prim.Native.Nat.{ℕ}
-use mathlib.Core.Path.{_≡_}
 use mathlib.Core.List.{List, []}
 use lib.ListN.{length}
-use lib.Dec.{leb, ltb}
-use Rattle.model.specs.declared.Window.{Window}
-use Rattle.model.specs.Common.{all, Outcome, refuse, accept}
-use Rattle.model.specs.Window.{WindowLine, windowsOf, window}
+use Rattle.model.specs.Common.{Outcome, refuse, accept}
+use Rattle.model.specs.Window.{WindowLine, windowPlace, windowsOf, window}
 use Rattle.model.specs.Open.{readKind}
 use Rattle.reading.specs.declared.window.WindowFrame.{WindowFrame}
 use Rattle.reading.specs.declared.window.WindowFrame.the-variants.{Found, Refused}
 use Rattle.reading.specs.declared.windows.WindowsRead.{WindowsRead}
 use Rattle.reading.specs.Answer.{nextOf, valueOf}
 
--- the jobs above all those before it are those from `low` on
-unfoldable pub Lowest : ℕ → List WindowLine → Type 0
-Lowest low before = (j : ℕ) → all (λ w. ltb (w .job) j) before ≡ leb low j
-
--- the record's place for a line
-unfoldable pub placed : WindowLine → Window
-placed w = record { lined = 1; earliest = w .earliest; latest = w .latest }
+abbrev pub windowJob : WindowLine → ℕ
+windowJob w = w .job
 
 -- the job and its place, or the refusal's number
 unfoldable pub windowTold : Outcome WindowLine → WindowFrame
 windowTold (refuse k) = Refused k
-windowTold (accept w) = Found (w .job) (placed w)
+windowTold (accept w) = Found (w .job) (windowPlace w)
 
 -- the lines of the kind, from the front of what is left of the file
 unfoldable pub readWindows : ℕ → List ℕ → Outcome (List WindowLine × List ℕ)

@@ -68,6 +68,7 @@ pub fn blank_batch() -> Batch
         jobs: [NO_JOB; 24],
         delays: [NO_DELAY; 128],
         windows: [NO_WINDOW; 24],
+        rests: [0u8; 16],
     }
 }
 
@@ -94,6 +95,7 @@ fn read_rest(file: &[u8], at: usize, edition: u8, n: u8) -> FurtherRead
     FurtherRead {
         answer: Opening::Accepted,
         windows: [NO_WINDOW; 24],
+        rests: [0u8; 16],
     }
 }
 
@@ -116,6 +118,7 @@ fn read_end(
         return refused(number);
     }
     let windows = further.windows;
+    let rests = further.rests;
     let edition = word(edition);
     BatchRead {
         answer: Opening::Accepted,
@@ -126,6 +129,7 @@ fn read_end(
             jobs,
             delays,
             windows,
+            rests,
         },
     }
 }

@@ -1,5 +1,6 @@
 // The further lines of edition 02, kind after kind, up to the end of the file.
 use crate::Next;
+use crate::rests::read_rests;
 use crate::windows::read_windows;
 use lines::Line;
 use lines::line_at;
@@ -18,6 +19,7 @@ ghost use Rattle.reading.specs.Further.{furtherTold};
 pub struct FurtherRead {
     pub answer: Opening,
     pub windows: [Window; 24],
+    pub rests: [u8; 16],
 }
 
 pub fn further_refused(number: u8) -> FurtherRead
@@ -26,6 +28,7 @@ pub fn further_refused(number: u8) -> FurtherRead
     FurtherRead {
         answer: Opening::Refused(number),
         windows: [NO_WINDOW; 24],
+        rests: [0u8; 16],
     }
 }
 
@@ -50,7 +53,15 @@ pub fn read_further(file: &[u8], at: usize, n: u8) -> FurtherRead
 {
     let first = read_windows(file, at, n);
     let behind_windows = first.answer;
-    let end = match behind_windows {
+    let next = match behind_windows {
+        Next::At(place) => place,
+        Next::Refused(number) => {
+            return further_refused(number);
+        }
+    };
+    let second = read_rests(file, next);
+    let behind_rests = second.answer;
+    let end = match behind_rests {
         Next::At(place) => place,
         Next::Refused(number) => {
             return further_refused(number);
@@ -61,8 +72,10 @@ pub fn read_further(file: &[u8], at: usize, n: u8) -> FurtherRead
         return further_refused(number);
     }
     let windows = first.windows;
+    let rests = second.rests;
     FurtherRead {
         answer: Opening::Accepted,
         windows,
+        rests,
     }
 }

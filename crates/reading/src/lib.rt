@@ -1,4 +1,4 @@
-// A batch file to its batch: line by line, frame by frame, with refusals 1 to 8, and 20 in the further lines of edition 02.
+// A batch file to its batch: line by line, frame by frame, with refusals 1 to 8, and 20 and 21 in the further lines of edition 02.
 mod batch;
 mod delay;
 mod delays;
@@ -7,6 +7,9 @@ mod further;
 mod header;
 mod job;
 mod jobs;
+mod numbered;
+mod rest;
+mod rests;
 mod window;
 mod windows;
 

@@ -2,13 +2,15 @@
 use crate::frame::frame_byte;
 use crate::frame::frame_is;
 use crate::frame::frame_wide;
+use crate::numbered::rises;
 use limits::ends_ok;
 use model::Window;
 ghost use mathlib.Core.Path.{_≡_};
 ghost use mathlib.Core.List.{List};
 ghost use Rattle.model.specs.Window.{WindowLine, window};
 ghost use Rattle.reading.specs.Frame.{frameAt, Inside};
-ghost use Rattle.reading.specs.Window.{Lowest, windowTold};
+ghost use Rattle.reading.specs.Numbered.{Lowest};
+ghost use Rattle.reading.specs.Window.{windowJob, windowTold};
 
 // The job and its window, or the refusal's number.
 pub enum WindowFrame {
@@ -19,7 +21,7 @@ pub enum WindowFrame {
 // Among n jobs, and after other lines: `low` is the lowest job that is above all of theirs.
 pub fn window_frame(file: &[u8], at: usize, size: usize, n: u8, low: u8) -> WindowFrame
     requires { ⌜ Inside (now file) at size ⌝ }
-    ensures { λ r. ⌜ ((before : List WindowLine) → Lowest low before → r ≡ windowTold (window n before (frameAt (now (file .entry)) at size))) ⌝ }
+    ensures { λ r. ⌜ ((before : List WindowLine) → Lowest windowJob low before → r ≡ windowTold (window n before (frameAt (now (file .entry)) at size))) ⌝ }
 {
     if !frame_is(file, at, size, 0xA3, 6) {
         return WindowFrame::Refused(2);
@@ -27,10 +29,7 @@ pub fn window_frame(file: &[u8], at: usize, size: usize, n: u8, low: u8) -> Wind
     let job = frame_byte(file, at, size, 1);
     let earliest = frame_wide(file, at, size, 2);
     let latest = frame_wide(file, at, size, 4);
-    if n <= job {
-        return WindowFrame::Refused(20);
-    }
-    if job < low {
+    if !rises(job, n, low) {
         return WindowFrame::Refused(20);
     }
     if !ends_ok(earliest, latest) {

@@ -60,7 +60,7 @@ pub first-paired : (s : Search) (x : Examined) → sound s ≡ true → Prepared
 first-paired s x e p k h =
     let q = record-passes s e in
     let f = fits (s .batch) q .few in
-    let t = tabled (s .batch) (q .counts) (q .ticks-each) in
+    let t = tabled (s .batch) (q .counts) (q .ticks-each) (q .further) in
     let known = list-known (s .batch) (x .clashes) (p .clashes) f t in
     let near = list-near (s .batch) (x .clashes) (p .clashes) f t in (
       omega (arith, list-fits (s .batch) (x .clashes) (p .clashes) f),

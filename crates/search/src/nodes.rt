@@ -47,7 +47,7 @@ pub fn visit_nodes(
     latest: &[u16; 24],
     codes: &[u16; 1024],
     pair: &[u16; 276],
-    held: &[u32; 276],
+    held: &[u64; 276],
     end: &[u16; 276],
     turns: &mut [u16; 1024],
     tail: &mut [u8; 1024],

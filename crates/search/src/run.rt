@@ -105,7 +105,7 @@ fn advance(search: Search, examined: Examined, budget: u32) -> Search
     let m = wide(batch.m);
     let code = heaviest_of(m, &from, &to, &weights);
     let mut pair = [0u16; 276];
-    let mut held = [0u32; 276];
+    let mut held = [0u64; 276];
     let mut end = [0u16; 276];
     let paired = taken_by_pairs(clashes.count, budget);
     let pairs = find_pairs(&codes, paired, &mut pair, &mut held, &mut end);

@@ -39,13 +39,14 @@ module _ (b : Batch) (x : Bool) (p : x ≡ limitsPass b) (e : not x ≡ false) w
 
   pub counts-tabled : Tabled b
   unfolding ticksPass
-  counts-tabled = tabled b (counts .0) (counts .1)
+  counts-tabled = tabled b (counts .0) (counts .1) (limits .1)
 
   -- no earliest start is above 20,000
   pub limits-soon : Small (earliestRead b) 20000
   unfolding soundFurther
   limits-soon =
-      earliest-small b counts-jobs 20000 (λ i h. window-soon b i (all-each (windowOk b) (count 0 (b .n)) (limits .1) (some-count 0 (b .n) i (omega arith) (omega arith))))
+      earliest-small b counts-jobs 20000 (λ i h.
+      window-soon b i (all-each (windowOk b) (count 0 (b .n)) (both (all (windowOk b) (count 0 (b .n))) _ (limits .1) .0) (some-count 0 (b .n) i (omega arith) (omega arith))))
 
   -- the delays pass too
   pub passed-delays : (r : Reading) → ReadsDelays b r → not (r .passed) ≡ false → DelaysSound b

@@ -3,14 +3,16 @@ use Prim.Native.Nat.{ℕ, _≤_, _<_}
 use mathlib.Core.Path.{_≡_, refl, ap, ap₂, sym, _∙_}
 use mathlib.Core.Bool.{Bool, true, false, not, _&&_}
 use mathlib.Core.List.{List, [], _∷_, map}
-use lib.ListN.{length}
-use lib.Dec.{eqb}
+use lib.ListN.{length, getD}
+use lib.Dec.{leb, eqb}
 use borrow.Author.Tests.{eq-eqb, ne-eqb}
 use Rattle.model.specs.declared.Window.{Window}
 use Rattle.model.specs.declared.Batch.{Batch}
 use Rattle.model.specs.Common.{if_then_else_, all, count, keep, isEmpty}
-use Rattle.model.specs.Batch.{windowOf, lined, earliest, latest}
+use Rattle.model.specs.Limits.{mostRest, stations}
+use Rattle.model.specs.Batch.{restOf, windowOf, lined, earliest, latest}
 use Rattle.model.specs.Window.{windowLine, windowLines, endsOk, windowOk}
+use Rattle.model.specs.Rest.{rested, restLine, restLines, restOk}
 use Rattle.model.specs.Open.{countsOk}
 use Rattle.model.specs.Format.{furtherOf, hasNone}
 use Rattle.model.specs.Sound.{soundEdition, soundFurther}
@@ -18,7 +20,7 @@ use Rattle.model.proofs.BoolLaws.{both, and-false, passes, fails}
 use Rattle.model.proofs.AllLaws.{allFrom, all-start}
 use Rattle.times.proofs.EndsLaws.{windowAt, windowIn, window-told}
 use Rattle.soundness.specs.Limits.{ticksPass, countsPass, limitsPass}
-use Rattle.soundness.specs.Further.{endsPass, windowsPass, unlined}
+use Rattle.soundness.specs.Further.{endsPass, windowsPass, unlined, restsPass, unrested}
 use Rattle.soundness.proofs.LimitLaws.{few-jobs}
 
 -- ---- ends
@@ -33,10 +35,6 @@ ends-told ws i x h e = e ∙ ap endsPass (window-told ws i h)
 pub ends-start : (b : Batch) (n : ℕ) → n ≡ b .n → allFrom (endTest (b .windows)) 0 n ≡ windowsPass b
 unfolding windowsPass endsPass windowOk lined earliest latest windowOf
 ends-start b n e = rw e (all-start (endTest (b .windows)) (b .n))
-
-pub further-is : (b : Batch) (x : Bool) → x ≡ windowsPass b → x ≡ soundFurther b
-unfolding windowsPass soundFurther
-further-is b x e = e
 
 -- ---- the limits, one after the other
 
@@ -68,8 +66,8 @@ module _ (b : Batch) where
   unfolding soundEdition
   edition-two e = rw (eq-eqb (b .edition) 2 e)
 
-  pub edition-one : (b .edition ≡ 2 → ⊥) → b .edition ≡ 1 → (x : Bool) → x ≡ unlined b → x ≡ soundEdition b
-  unfolding soundEdition unlined hasNone furtherOf
+  pub edition-one : (b .edition ≡ 2 → ⊥) → b .edition ≡ 1 → (x : Bool) → x ≡ hasNone (furtherOf b) → x ≡ soundEdition b
+  unfolding soundEdition
   edition-one n e x h = h ∙ rw (ne-eqb (b .edition) 2 n, eq-eqb (b .edition) 1 e)
 
   pub edition-none : (b .edition ≡ 2 → ⊥) → (b .edition ≡ 1 → ⊥) → eqb (b .edition) 1 ≡ soundEdition b
@@ -93,6 +91,17 @@ module _ (w : Window) where
 
 -- ---- no lines
 
+-- nothing that is kept of some numbers: each fails the test
+pub none-kept : {A : Type 0} (none : ℕ → Bool) (line : ℕ → A) (xs : List ℕ) → all none xs ≡ isEmpty (map line (keep (λ i. not (none i)) xs))
+unfolding all keep if_then_else_ isEmpty
+none-kept none line [] = refl
+none-kept none line (x ∷ xs) = go (none x) (none-kept none line xs)
+  where
+    go : (t : Bool) → all none xs ≡ isEmpty (map line (keep (λ i. not (none i)) xs))
+        → _≡_ {A = Bool} (elim t [ true ↦ all none xs | false ↦ false ]) (isEmpty (map line (if not t then x ∷ keep (λ i. not (none i)) xs else keep (λ i. not (none i)) xs)))
+    go true rec = rec
+    go false rec = refl
+
 -- a job has none, by its flag
 abbrev pub lineTest : List Window → ℕ → Bool
 lineTest ws i = eqb (windowIn ws i .lined) 0
@@ -100,16 +109,24 @@ lineTest ws i = eqb (windowIn ws i .lined) 0
 pub line-told : (ws : List Window) (i : ℕ) (x : Bool) → i < length ws → eqb (windowAt ws i .lined) 0 ≡ x → lineTest ws i ≡ x
 line-told ws i x h e = ap (λ (w : Window). eqb (w .lined) 0) (sym (window-told ws i h)) ∙ e
 
-none-kept : (b : Batch) (xs : List ℕ) → all (lineTest (b .windows)) xs ≡ isEmpty (map (windowLine b) (keep (lined b) xs))
-unfolding all keep if_then_else_ isEmpty lined windowOf
-none-kept b [] = refl
-none-kept b (x ∷ xs) = go (lineTest (b .windows) x) (none-kept b xs)
-  where
-    go : (t : Bool) → all (lineTest (b .windows)) xs ≡ isEmpty (map (windowLine b) (keep (lined b) xs))
-        → _≡_ {A = Bool} (elim t [ true ↦ all (lineTest (b .windows)) xs | false ↦ false ]) (isEmpty (map (windowLine b) (if not t then x ∷ keep (lined b) xs else keep (lined b) xs)))
-    go true rec = rec
-    go false rec = refl
-
 pub none-start : (b : Batch) (n : ℕ) → n ≡ b .n → allFrom (lineTest (b .windows)) 0 n ≡ unlined b
-unfolding unlined windowLines
-none-start b n e = rw e (all-start (lineTest (b .windows)) (b .n) ∙ none-kept b (count 0 (b .n)))
+unfolding unlined windowLines lined windowOf
+none-start b n e = rw e (all-start (lineTest (b .windows)) (b .n) ∙ none-kept (lineTest (b .windows)) (windowLine b) (count 0 (b .n)))
+
+-- ---- rests
+
+-- one station's rest, among the batch's
+abbrev pub restTest : List ℕ → ℕ → Bool
+restTest rs s = leb (getD rs s 0) mostRest
+
+pub rests-start : (b : Batch) → allFrom (restTest (b .rests)) 0 stations ≡ restsPass b
+unfolding restsPass restOk restOf
+rests-start b = all-start (restTest (b .rests)) stations
+
+-- a station has no line
+abbrev pub restless : List ℕ → ℕ → Bool
+restless rs s = eqb (getD rs s 0) 0
+
+pub restless-start : (b : Batch) → allFrom (restless (b .rests)) 0 stations ≡ unrested b
+unfolding unrested restLines rested restOf
+restless-start b = all-start (restless (b .rests)) stations ∙ none-kept (restless (b .rests)) (restLine b) (count 0 stations)

@@ -20,6 +20,7 @@ mod batch;
 mod best;
 mod further;
 mod path;
+mod rest;
 mod state;
 mod window;
 

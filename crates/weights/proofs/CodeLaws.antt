@@ -84,23 +84,23 @@ told-coded w r f e = e ∙ ap coded (toZ-ofZ w16 w f)
 -- ---- clashes
 
 module _ (n : ℕ) (few : n ≤ 24) (c : Clash) (f : ClashFits n c) where
-  pub lift-most : lift (c .d) ≤ 30
+  pub lift-most : lift (c .d) ≤ 44
   unfolding lift
   lift-most = go (c .d) (f .high)
     where
-      go : (d : ℤ) → d ≤ℤ pos 15 → lift d ≤ 30
-      go (pos k) h = let p : k ≤ 15 = leb→le _ _ (h .le) in omega arith
+      go : (d : ℤ) → d ≤ℤ pos 22 → lift d ≤ 44
+      go (pos k) h = let p : k ≤ 22 = leb→le _ _ (h .le) in omega arith
       go (negsuc k) h = omega arith
 
-  pub clash-i : codeOf c / 1024 ≡ c .i
+  pub clash-i : codeOf c / 2048 ≡ c .i
   unfolding codeOf
   clash-i = omega (arith, lift-most, f .i, f .j)
 
-  pub clash-j : codeOf c / 32 % 32 ≡ c .j
+  pub clash-j : codeOf c / 64 % 32 ≡ c .j
   unfolding codeOf
   clash-j = omega (arith, lift-most, f .i, f .j)
 
-  pub clash-d : codeOf c % 32 ≡ lift (c .d)
+  pub clash-d : codeOf c % 64 ≡ lift (c .d)
   unfolding codeOf
   clash-d = omega (arith, lift-most, f .i, f .j)
 
@@ -109,37 +109,37 @@ below-0 : (k : ℕ) → subℕ 1 (suc (suc k)) ≡ negsuc k
 below-0 k = rw (lt-ltb 1 (suc (suc k)) (omega arith)) (ap negsuc (omega arith))
 
 -- −k − 1, for a small k
-few-below : (k : ℕ) → k ≤ 14 → Limited (negsuc k)
+few-below : (k : ℕ) → k ≤ 21 → Limited (negsuc k)
 few-below k h = record { low = record { le = le→leb k 999 (omega arith) }; high = record { le = tt } }
 
-few-above : (k : ℕ) → k ≤ 16 → Limited (pos k)
+few-above : (k : ℕ) → k ≤ 23 → Limited (pos k)
 few-above k h = record { low = record { le = tt }; high = record { le = le→leb k 1000 (omega arith) } }
 
 -- d + 1, the weight of side 0
-pub side0-code : (d : ℤ) → negsuc 14 ≤ℤ d → d ≤ℤ pos 15 → coded (d +ℤ pos 1) ≡ 1014 - lift d
+pub side0-code : (d : ℤ) → negsuc 21 ≤ℤ d → d ≤ℤ pos 22 → coded (d +ℤ pos 1) ≡ 1021 - lift d
 unfolding coded lift
 side0-code (pos k) l h = omega arith
 side0-code (negsuc zero) l h = refl
-side0-code (negsuc (suc k)) l h = let p : suc k ≤ 14 = leb→le (suc k) 14 (l .le) in rw (below-0 k) (omega arith)
+side0-code (negsuc (suc k)) l h = let p : suc k ≤ 21 = leb→le (suc k) 21 (l .le) in rw (below-0 k) (omega arith)
 
-pub side0-limited : (d : ℤ) → negsuc 14 ≤ℤ d → d ≤ℤ pos 15 → Limited (d +ℤ pos 1)
-side0-limited (pos k) l h = let p : k ≤ 15 = leb→le k 15 (h .le) in few-above (k + 1) (omega arith)
+pub side0-limited : (d : ℤ) → negsuc 21 ≤ℤ d → d ≤ℤ pos 22 → Limited (d +ℤ pos 1)
+side0-limited (pos k) l h = let p : k ≤ 22 = leb→le k 22 (h .le) in few-above (k + 1) (omega arith)
 side0-limited (negsuc zero) l h = few-above 0 (omega arith)
 side0-limited (negsuc (suc k)) l h =
-    let p : suc k ≤ 14 = leb→le (suc k) 14 (l .le) in rw (below-0 k) (few-below k (omega arith))
+    let p : suc k ≤ 21 = leb→le (suc k) 21 (l .le) in rw (below-0 k) (few-below k (omega arith))
 
 -- 1 − d, the weight of side 1
-pub side1-code : (d : ℤ) → negsuc 14 ≤ℤ d → d ≤ℤ pos 15 → coded (pos 1 -ℤ d) ≡ lift d + 984
+pub side1-code : (d : ℤ) → negsuc 21 ≤ℤ d → d ≤ℤ pos 22 → coded (pos 1 -ℤ d) ≡ lift d + 977
 unfolding coded lift
 side1-code (pos zero) l h = refl
 side1-code (pos (suc zero)) l h = refl
 side1-code (pos (suc (suc k))) l h =
-    let p : suc (suc k) ≤ 15 = leb→le (suc (suc k)) 15 (h .le) in rw (below-0 k) (omega arith)
-side1-code (negsuc k) l h = let p : k ≤ 14 = leb→le k 14 (l .le) in omega arith
+    let p : suc (suc k) ≤ 22 = leb→le (suc (suc k)) 22 (h .le) in rw (below-0 k) (omega arith)
+side1-code (negsuc k) l h = let p : k ≤ 21 = leb→le k 21 (l .le) in omega arith
 
-pub side1-limited : (d : ℤ) → negsuc 14 ≤ℤ d → d ≤ℤ pos 15 → Limited (pos 1 -ℤ d)
+pub side1-limited : (d : ℤ) → negsuc 21 ≤ℤ d → d ≤ℤ pos 22 → Limited (pos 1 -ℤ d)
 side1-limited (pos zero) l h = few-above 1 (omega arith)
 side1-limited (pos (suc zero)) l h = few-above 0 (omega arith)
 side1-limited (pos (suc (suc k))) l h =
-    let p : suc (suc k) ≤ 15 = leb→le (suc (suc k)) 15 (h .le) in rw (below-0 k) (few-below k (omega arith))
-side1-limited (negsuc k) l h = let p : k ≤ 14 = leb→le k 14 (l .le) in few-above (1 + suc k) (omega arith)
+    let p : suc (suc k) ≤ 22 = leb→le (suc (suc k)) 22 (h .le) in rw (below-0 k) (few-below k (omega arith))
+side1-limited (negsuc k) l h = let p : k ≤ 21 = leb→le k 21 (l .le) in few-above (1 + suc k) (omega arith)

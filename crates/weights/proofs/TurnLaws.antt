@@ -17,11 +17,11 @@ use Rattle.weights.proofs.CodeLaws.{clash-i, clash-j, clash-d, side0-co
 -- ---- the cases of the code
 
 module _ (clash turn : ℕ) where
-  even-turn : turn % 2 ≡ 0 → (turnFrom clash turn ≡ clash / 1024) × ((turnTo clash turn ≡ clash / 32 % 32) × (turnCode clash turn ≡ 1014 - clash % 32))
+  even-turn : turn % 2 ≡ 0 → (turnFrom clash turn ≡ clash / 2048) × ((turnTo clash turn ≡ clash / 64 % 32) × (turnCode clash turn ≡ 1021 - clash % 64))
   unfolding turnFrom turnTo turnCode if_then_else_
   even-turn h = let e = eq-eqb (turn % 2) 0 h in (rw e, (rw e, rw e))
 
-  odd-turn : (turn % 2 ≡ 0 → ⊥) → (turnFrom clash turn ≡ clash / 32 % 32) × ((turnTo clash turn ≡ clash / 1024) × (turnCode clash turn ≡ clash % 32 + 984))
+  odd-turn : (turn % 2 ≡ 0 → ⊥) → (turnFrom clash turn ≡ clash / 64 % 32) × ((turnTo clash turn ≡ clash / 2048) × (turnCode clash turn ≡ clash % 64 + 977))
   unfolding turnFrom turnTo turnCode if_then_else_
   odd-turn h = let e = ne-eqb (turn % 2) 0 h in (rw e, (rw e, rw e))
 
@@ -30,10 +30,10 @@ module _ (from to code : List ℕ) (k clash turn i j : ℕ) where
   abbrev Stored : ℕ → ℕ → ℕ → Type 0
   Stored a b c = (set from k a ≡ set from k (turnFrom clash turn)) × ((set to k b ≡ set to k (turnTo clash turn)) × (set code k c ≡ set code k (turnCode clash turn)))
 
-  pub even-stored : turn % 2 ≡ 0 → i ≡ clash / 1024 → j ≡ clash / 32 % 32 → Stored i j (1014 - clash % 32)
+  pub even-stored : turn % 2 ≡ 0 → i ≡ clash / 2048 → j ≡ clash / 64 % 32 → Stored i j (1021 - clash % 64)
   even-stored h p q = let t = even-turn clash turn h in (rw (t .0, p), (rw (t .1 .0, q), rw (t .1 .1)))
 
-  pub odd-stored : (turn % 2 ≡ 0 → ⊥) → i ≡ clash / 1024 → j ≡ clash / 32 % 32 → Stored j i (clash % 32 + 984)
+  pub odd-stored : (turn % 2 ≡ 0 → ⊥) → i ≡ clash / 2048 → j ≡ clash / 64 % 32 → Stored j i (clash % 64 + 977)
   odd-stored h p q = let t = odd-turn clash turn h in (rw (t .0, q), (rw (t .1 .0, p), rw (t .1 .1)))
 
 -- ---- the definition

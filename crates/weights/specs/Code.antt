@@ -27,9 +27,9 @@ pub record Fits (n : ℕ) (q : Delay) : Type 0 where
   pub to : q .to < n
   pub weight : Limited (q .weight)
 
--- a clash of jobs below n, with a distance of −15 to 15
+-- a clash of jobs below n, with a distance of −22 to 22
 pub record ClashFits (n : ℕ) (c : Clash) : Type 0 where
   pub i : c .i < n
   pub j : c .j < n
-  pub low : negsuc 14 ≤ℤ c .d
-  pub high : c .d ≤ℤ pos 15
+  pub low : negsuc 21 ≤ℤ c .d
+  pub high : c .d ≤ℤ pos 22

@@ -4,10 +4,10 @@ use lib.Dec.{eqb}
 use Rattle.model.specs.Common.{if_then_else_}
 
 unfoldable pub turnFrom : ℕ → ℕ → ℕ
-turnFrom clash turn = if eqb (turn % 2) 0 then clash / 1024 else clash / 32 % 32
+turnFrom clash turn = if eqb (turn % 2) 0 then clash / 2048 else clash / 64 % 32
 
 unfoldable pub turnTo : ℕ → ℕ → ℕ
-turnTo clash turn = if eqb (turn % 2) 0 then clash / 32 % 32 else clash / 1024
+turnTo clash turn = if eqb (turn % 2) 0 then clash / 64 % 32 else clash / 2048
 
 unfoldable pub turnCode : ℕ → ℕ → ℕ
-turnCode clash turn = if eqb (turn % 2) 0 then 1014 - clash % 32 else clash % 32 + 984
+turnCode clash turn = if eqb (turn % 2) 0 then 1021 - clash % 64 else clash % 64 + 977

@@ -10,10 +10,12 @@ use Rattle.model.specs.declared.Window.{Window}
 use Rattle.model.specs.Common.{joined}
 use Rattle.model.specs.Line.{digitsOf, two, four}
 use Rattle.model.specs.Window.{windowText}
+use Rattle.model.specs.Rest.{restText}
 use Rattle.model.specs.Format.{unsigned, headerLine, masksOf, jobLine, delayLine}
 use Rattle.lines.proofs.Puts.{digits-length, line-length}
 use Rattle.writing.specs.Lines.{headLine, startLine, noPlanLine}
 use Rattle.writing.specs.Windows.{windowAs}
+use Rattle.writing.specs.Rests.{restAs}
 use Rattle.writing.proofs.Pieces.{pieces-even, joined-pieces}
 
 -- a number of two bytes
@@ -48,6 +50,11 @@ delay-length q = line-length (0xA2 ∷ q .from ∷ q .to ∷ two (unsigned (q .w
 pub window-length : (job : ℕ) (w : Window) → length (windowAs job w) ≡ 13
 unfolding windowAs windowText two
 window-length job w = line-length (0xA3 ∷ job ∷ (two (w .earliest) ++ two (w .latest)))
+
+-- 3 bytes
+pub rest-length : (station ticks : ℕ) → length (restAs station ticks) ≡ 7
+unfolding restAs restText
+rest-length station ticks = line-length (0xA4 ∷ station ∷ ticks ∷ [])
 
 -- 9 bytes
 pub head-length : (n latency total : ℕ) → length (headLine n latency total) ≡ 19

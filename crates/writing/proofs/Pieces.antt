@@ -99,6 +99,25 @@ filled-all f before at n text {k} p h e =
     let all : pieces f k ≡ text = ap (pieces f) h ∙ sym e in
     (p .place ∙ ap (λ (l : List ℕ). at + length l) all, p .buffer ∙ ap (overwritten before at) all)
 
+-- ---- a loop that counts their bytes, at most c a piece
+
+pub record Sized (f : ℕ → List ℕ) (c k size : ℕ) : Type 0 where
+  pub is : size ≡ length (pieces f k)
+  pub most : size ≤ c * k
+
+-- before the first
+pub sized-none : (f : ℕ → List ℕ) (c : ℕ) → Sized f c 0 0
+unfolding pieces joined count
+sized-none f c = record { is = refl; most = omega arith }
+
+-- one turn more
+pub sized-more : (f : ℕ → List ℕ) (c : ℕ) {k size add : ℕ} → Sized f c k size → add ≡ length (f k) → add ≤ c → Sized f c (k + 1) (size + add)
+sized-more f c {k} s e l = record { is = omega (arith, s .is, pieces-length f k); most = omega (arith, s .most) }
+
+-- after the last
+pub sized-all : (f : ℕ → List ℕ) (c n : ℕ) (text : List ℕ) {k size : ℕ} → Sized f c k size → k ≡ n → text ≡ pieces f n → (size ≡ length text) × (size ≤ c * n)
+sized-all f c n text {k} s h e = (s .is ∙ ap length (ap (pieces f) h ∙ sym e), omega (arith, s .most, ap (λ (i : ℕ). c * i) h))
+
 -- ---- what is made of pieces
 
 -- items of a list by number are pieces

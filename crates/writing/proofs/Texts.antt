@@ -1,4 +1,4 @@
--- The texts that the loops put, as pieces: the masks of a job, the job lines, the delay lines, the window lines, and the start lines.
+-- The texts that the loops put, as pieces: the masks of a job, the job lines, the delay lines, the window lines, the rest lines, and the start lines.
 use Prim.Native.Nat.{ℕ, _+_, _*_, _≤_}
 use mathlib.Core.Path.{_≡_, refl, ap, sym, _∙_}
 use mathlib.Core.Bool.{Bool, true, false, not}
@@ -12,18 +12,22 @@ use Rattle.model.specs.declared.Job.{Job}
 use Rattle.model.specs.declared.Batch.{Batch}
 use Rattle.model.specs.declared.Window.{Window}
 use Rattle.model.specs.Common.{if_then_else_, count, keep, joined}
-use Rattle.model.specs.Batch.{blankJob, blankWindow, jobOf, ticks, delayOf, delaysOf, windowOf, lined, earliest, latest}
+use Rattle.model.specs.Limits.{stations}
+use Rattle.model.specs.Batch.{blankJob, blankWindow, jobOf, ticks, delayOf, delaysOf, restOf, windowOf, lined, earliest, latest}
 use Rattle.model.specs.Plan.{start}
 use Rattle.model.specs.Line.{digitsOf, two}
 use Rattle.model.specs.Window.{windowText, windowLine, windowLines}
+use Rattle.model.specs.Rest.{restText, rested, restLine, restLines}
 use Rattle.model.specs.Format.{headerLine, masksOf, jobLine, jobsOf, delayLine, furtherOf, furtherText, batchFile}
 use Rattle.model.proofs.SeqLaws.{getD-default}
 use Rattle.lines.specs.Write.{overwritten}
 use Rattle.lines.proofs.Puts.{put-nothing, put-then}
 use Rattle.writing.specs.Lines.{headLine, startLine, startLines, foundLines}
+use Rattle.writing.specs.Lined.{lineIf, sizeIf}
 use Rattle.writing.specs.Windows.{windowAs, windowPiece}
+use Rattle.writing.specs.Rests.{restAs, restPiece}
 use Rattle.writing.proofs.Pieces.{pieces, pieces-even, joined-pieces, digits-pieces}
-use Rattle.writing.proofs.Lengths.{two-length, header-length, job-length, delay-length, window-length, head-length, start-length}
+use Rattle.writing.proofs.Lengths.{two-length, header-length, job-length, delay-length, window-length, rest-length, head-length, start-length}
 
 -- ---- masks
 
@@ -72,64 +76,90 @@ pub delays-length : (b : Batch) → length (joined delayLine (delaysOf b)) ≡ 1
 unfolding delaysOf
 delays-length b = ap length (joined-pieces delayLine (delayOf b) (b .m)) ∙ delays-size (delayOf b) (b .m)
 
+-- ---- lines that stand only where a number is not 0
+
+-- the lines of those numbers that have one are pieces
+kept-text : {A : Type 0} (text : A → List ℕ) (line : ℕ → A) (has : ℕ → Bool) (n : ℕ) → joined text (map line (keep has (count 0 n))) ≡ pieces (λ i. if has i then text (line i) else []) n
+unfolding keep joined pieces if_then_else_
+kept-text text line has n = go (count 0 n)
+  where
+    go : (xs : List ℕ) → joined text (map line (keep has xs)) ≡ joined (λ i. if has i then text (line i) else []) xs
+    go [] = refl
+    go (x ∷ xs) = step (has x) (go xs)
+      where
+        step : (t : Bool) → joined text (map line (keep has xs)) ≡ joined (λ i. if has i then text (line i) else []) xs
+            → joined text (map line (if t then x ∷ keep has xs else keep has xs)) ≡ (if t then text (line x) else []) ++ joined (λ i. if has i then text (line i) else []) xs
+        step true e = ap (λ (l : List ℕ). text (line x) ++ l) e
+        step false e = e
+
+-- with a line and without
+pub line-some : (number : ℕ) (line : List ℕ) → (number ≡ 0 → ⊥) → lineIf number line ≡ line
+unfolding lineIf if_then_else_
+line-some number line h = rw (ne-eqb number 0 h)
+
+pub line-none : (number : ℕ) (line : List ℕ) → number ≡ 0 → lineIf number line ≡ []
+unfolding lineIf if_then_else_
+line-none number line h = rw (eq-eqb number 0 h)
+
+-- its bytes
+pub line-size : (number size : ℕ) (line : List ℕ) → length line ≡ size → sizeIf number size ≡ length (lineIf number line)
+unfolding lineIf sizeIf if_then_else_
+line-size number size line e = go (not (eqb number 0))
+  where
+    go : (t : Bool) → (if t then size else 0) ≡ length (if t then line else [])
+    go true = sym e
+    go false = refl
+
 -- ---- windows
 
 abbrev pub linePiece : Batch → ℕ → List ℕ
 linePiece b i = windowPiece i (windowOf b i)
 
 pub windows-text : (b : Batch) → joined windowText (windowLines b) ≡ pieces (linePiece b) (b .n)
-unfolding windowLines windowLine lined earliest latest windowPiece windowAs keep joined pieces if_then_else_
-windows-text b = go (count 0 (b .n))
-  where
-    go : (xs : List ℕ) → joined windowText (map (windowLine b) (keep (lined b) xs)) ≡ joined (linePiece b) xs
-    go [] = refl
-    go (x ∷ xs) = step (lined b x) (go xs)
-      where
-        step : (t : Bool) → joined windowText (map (windowLine b) (keep (lined b) xs)) ≡ joined (linePiece b) xs
-            → joined windowText (map (windowLine b) (if t then x ∷ keep (lined b) xs else keep (lined b) xs)) ≡ (if t then windowAs x (windowOf b x) else []) ++ joined (linePiece b) xs
-        step true e = ap (λ (l : List ℕ). windowAs x (windowOf b x) ++ l) e
-        step false e = e
+unfolding windowLines windowLine lined earliest latest windowPiece windowAs lineIf
+windows-text b = kept-text windowText (windowLine b) (lined b) (b .n)
 
 -- a window as the code reads it: past the array's end it has no line
 abbrev pub readWindow : Batch → ℕ → Window
 readWindow b i = getD (b .windows) i (record { lined = 0; earliest = 0; latest = 0 })
 
-pub read-window : (b : Batch) (i j : ℕ) → windowPiece j (readWindow b i) ≡ windowPiece j (windowOf b i)
-unfolding windowOf blankWindow windowPiece if_then_else_
-read-window b i j = getD-default (windowPiece j) (b .windows) i (record { lined = 0; earliest = 0; latest = 0 }) blankWindow refl
+pub read-window : (b : Batch) (i : ℕ) → windowPiece i (readWindow b i) ≡ linePiece b i
+unfolding windowOf blankWindow windowPiece lineIf if_then_else_
+read-window b i = getD-default (windowPiece i) (b .windows) i (record { lined = 0; earliest = 0; latest = 0 }) blankWindow refl
 
--- a line is as long for each job
-pub piece-length : (i j : ℕ) (w : Window) → length (windowPiece i w) ≡ length (windowPiece j w)
-unfolding windowPiece if_then_else_
-piece-length i j w = go (not (eqb (w .lined) 0))
-  where
-    go : (t : Bool) → length (if t then windowAs i w else []) ≡ length (if t then windowAs j w else [])
-    go true = window-length i w ∙ sym (window-length j w)
-    go false = refl
+pub window-size : (b : Batch) (i : ℕ) → sizeIf (readWindow b i .lined) 13 ≡ length (linePiece b i)
+unfolding windowPiece
+window-size b i = line-size (readWindow b i .lined) 13 (windowAs i (readWindow b i)) (window-length i (readWindow b i)) ∙ ap length (read-window b i)
 
--- with a line and without
-pub piece-lined : (i : ℕ) (w : Window) → (w .lined ≡ 0 → ⊥) → windowPiece i w ≡ windowAs i w
-unfolding windowPiece if_then_else_
-piece-lined i w h = rw (ne-eqb (w .lined) 0 h)
+-- ---- rests, whose lines stand in an array of numbers
 
-pub piece-none : (i : ℕ) (w : Window) → w .lined ≡ 0 → windowPiece i w ≡ []
-unfolding windowPiece if_then_else_
-piece-none i w h = rw (eq-eqb (w .lined) 0 h)
+abbrev pub stationPiece : List ℕ → ℕ → List ℕ
+stationPiece rests s = restPiece s (getD rests s 0)
+
+pub rests-text : (b : Batch) → joined restText (restLines b) ≡ pieces (stationPiece (b .rests)) stations
+unfolding restLines restLine rested restOf restPiece restAs lineIf
+rests-text b = kept-text restText (restLine b) (rested b) stations
+
+pub rest-size : (rests : List ℕ) (s : ℕ) → sizeIf (getD rests s 0) 7 ≡ length (stationPiece rests s)
+unfolding restPiece
+rest-size rests s = line-size (getD rests s 0) 7 (restAs s (getD rests s 0)) (rest-length s (getD rests s 0))
 
 -- ---- the batch text
 
-pub batch-length : (b : Batch) → length (batchFile b) ≡ 9 + (length (joined jobLine (jobsOf b)) + (11 * b .m + length (joined windowText (windowLines b))))
+pub batch-length : (b : Batch) → length (batchFile b) ≡ 9 + (length (joined jobLine (jobsOf b)) + (11 * b .m + (length (joined windowText (windowLines b)) + length (joined restText (restLines b)))))
 unfolding batchFile furtherText furtherOf
 batch-length b =
     let head = headerLine (b .edition) (b .n) (b .m) in
     let jobs = joined jobLine (jobsOf b) in
     let delays = joined delayLine (delaysOf b) in
     let windows = joined windowText (windowLines b) in
+    let rests = joined restText (restLines b) in
     omega (
       arith,
-      length-append head (jobs ++ (delays ++ windows)),
-      length-append jobs (delays ++ windows),
-      length-append delays windows,
+      length-append head (jobs ++ (delays ++ (windows ++ rests))),
+      length-append jobs (delays ++ (windows ++ rests)),
+      length-append delays (windows ++ rests),
+      length-append windows rests,
       header-length (b .edition) (b .n) (b .m),
       delays-length b,
     )

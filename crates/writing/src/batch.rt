@@ -13,6 +13,8 @@ ghost use Rattle.writing.specs.Bounded.{Bounded};
 use crate::frame::put_delay;
 use crate::frame::put_header;
 use crate::frame::put_pair;
+use crate::rests::put_rests;
+use crate::rests::rests_length;
 use crate::windows::put_windows;
 use crate::windows::windows_length;
 use delay_array::array_columns;
@@ -31,7 +33,8 @@ pub fn put_batch(buffer: &mut [u8], batch: Batch) -> usize
     let jobs = put_header(buffer, 0, batch.edition as u8, batch.n, batch.m);
     let delays = put_jobs(buffer, jobs, batch);
     let windows = put_delays(buffer, delays, batch);
-    put_windows(buffer, windows, batch)
+    let rests = put_windows(buffer, windows, batch);
+    put_rests(buffer, rests, batch)
 }
 
 // The number of its bytes: two digits a byte, and a 0A a line.
@@ -41,7 +44,7 @@ pub fn batch_length(batch: Batch) -> usize
 {
     let n = wide(batch.n);
     let m = wide(batch.m);
-    let mut size: usize = 9 + 11 * m + windows_length(batch);
+    let mut size: usize = 9 + 11 * m + windows_length(batch) + rests_length(batch);
     let mut i: usize = 0;
     while i < n {
         let job = batch.jobs[i];

@@ -3,9 +3,12 @@
 mod batch;
 mod batch_text;
 mod frame;
+mod lined;
 mod number;
 mod plan;
 mod plan_text;
+mod rest;
+mod rests;
 mod window;
 mod windows;
 

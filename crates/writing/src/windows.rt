@@ -7,10 +7,12 @@ ghost use Rattle.model.specs.Limits.{mostJobs};
 ghost use Rattle.model.specs.Window.{windowText, windowLines};
 ghost use Rattle.lines.specs.Write.{overwritten};
 ghost use Rattle.writing.specs.Windows.{windowPiece};
+use crate::lined::lined_size;
 use crate::window::put_window;
 use model::Batch;
 use model::Window;
 use model::wide;
+use model::wide16;
 
 pub fn put_windows(buffer: &mut [u8], at: usize, batch: Batch) -> usize
     requires { ⌜ (batch .n ≤ mostJobs) × (at + length (joined windowText (windowLines batch)) ≤ length (now buffer)) ⌝ }
@@ -37,7 +39,7 @@ pub fn windows_length(batch: Batch) -> usize
     let mut i: usize = 0;
     while i < n {
         let window = batch.windows[i];
-        size = size + lined_length(window);
+        size = size + lined_size(wide16(window.lined), 13);
         i = i + 1;
     }
     size
@@ -52,14 +54,4 @@ fn put_lined(buffer: &mut [u8], at: usize, job: u8, window: Window) -> usize
         return at;
     }
     put_window(buffer, at, job, window)
-}
-
-// The number of its bytes, whichever job it is.
-fn lined_length(window: Window) -> usize
-    ensures { λ r. ⌜ (r ≡ length (windowPiece 0 window)) × (r ≤ 13) ⌝ }
-{
-    if window.lined != 0 {
-        return 13;
-    }
-    0
 }

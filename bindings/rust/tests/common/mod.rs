@@ -1,6 +1,5 @@
 //! What the tests share: a batch in plain numbers with its file, a check of plans tick by tick, and random batches from a fixed seed.
 #![allow(dead_code)]
-use std::collections::HashSet;
 use std::fs;
 use std::path::PathBuf;
 
@@ -19,12 +18,14 @@ pub fn batch_files(folder: &str) -> Vec<(String, Vec<u8>)> {
     files
 }
 
-/// Jobs as lists of masks, delays as (from, to, weight), windows as (job, earliest, latest); none are there in edition 01.
+/// Jobs as lists of masks, delays as (from, to, weight), windows as (job, earliest, latest), rests as (station, ticks). Windows are none in edition
+/// 01, and rests then empty.
 #[derive(Clone, Debug, Default, PartialEq, Eq)]
 pub struct Batch {
     pub jobs: Vec<Vec<u16>>,
     pub delays: Vec<(usize, usize, i16)>,
     pub windows: Option<Vec<(usize, u16, u16)>>,
+    pub rests: Vec<(usize, u16)>,
 }
 
 impl Batch {
@@ -42,6 +43,9 @@ impl Batch {
         for (job, earliest, latest) in self.windows.iter().flatten() {
             text += &format!("A3{job:02X}{earliest:04X}{latest:04X}\n");
         }
+        for (station, ticks) in &self.rests {
+            text += &format!("A4{station:02X}{ticks:02X}\n");
+        }
         text.into_bytes()
     }
 
@@ -54,6 +58,7 @@ impl Batch {
             match &line[..2] {
                 "A0" => batch.windows = (&line[2..4] == "02").then(Vec::new),
                 "A3" => batch.windows.as_mut().unwrap().push((number(line, 2, 4).into(), number(line, 4, 8), number(line, 8, 12))),
+                "A4" => batch.rests.push((number(line, 2, 4).into(), number(line, 4, 6))),
                 "A1" => batch.jobs.push((4..line.len()).step_by(4).map(|k| number(line, k, k + 4)).collect()),
                 "A2" => batch.delays.push((number(line, 2, 4).into(), number(line, 4, 6).into(), number(line, 6, 10) as i16)),
                 _ => (),
@@ -71,7 +76,32 @@ impl Batch {
         starts.iter().zip(&self.jobs).map(finish).max().unwrap_or(0)
     }
 
-    /// What is wrong with a plan: a delay not kept, a start outside its window, a station held twice in a tick, another latency.
+    /// Every tick in which a job holds a station, as (job, tick).
+    fn held(&self, station: usize, starts: &[u16]) -> Vec<(usize, u32)> {
+        let mut list = Vec::new();
+        for (job, masks) in self.jobs.iter().enumerate() {
+            let ticks = (0..).zip(masks).filter(|(_, mask)| *mask >> station & 1 == 1);
+            list.extend(ticks.map(|(tick, _)| (job, u32::from(starts[job]) + tick)));
+        }
+        list
+    }
+
+    /// A station and two ticks in which different jobs hold it and that are not more than its rest apart.
+    fn too_close(&self, starts: &[u16]) -> Option<(usize, u32, u32)> {
+        for station in 0..16 {
+            let rest = self.rests.iter().find(|rest| rest.0 == station).map_or(0, |rest| u32::from(rest.1));
+            let held = self.held(station, starts);
+            for (k, &(one, x)) in held.iter().enumerate() {
+                if let Some((_, y)) = held[..k].iter().find(|(other, y)| *other != one && x.abs_diff(*y) <= rest) {
+                    return Some((station, x, *y));
+                }
+            }
+        }
+        None
+    }
+
+    /// What is wrong with a plan: a delay not kept, a start outside its window, a station held by two jobs in one tick or in ticks no further apart
+    /// than its rest, another latency.
     pub fn fault(&self, starts: &[u16], latency: u16) -> Option<String> {
         if starts.len() != self.jobs.len() {
             return Some(format!("{} starts for {} jobs", starts.len(), self.jobs.len()));
@@ -86,16 +116,8 @@ impl Batch {
                 return Some(format!("job {job} starts at {}, outside {earliest} to {latest}", starts[job]));
             }
         }
-        let mut held = HashSet::new();
-        for (job, masks) in self.jobs.iter().enumerate() {
-            for (tick, mask) in masks.iter().enumerate() {
-                let now = usize::from(starts[job]) + tick;
-                for station in (0..16).filter(|station| mask >> station & 1 == 1) {
-                    if !held.insert((now, station)) {
-                        return Some(format!("station {station} is held twice in tick {now}"));
-                    }
-                }
-            }
+        if let Some((station, x, y)) = self.too_close(starts) {
+            return Some(format!("station {station} is held by two jobs in ticks {x} and {y}"));
         }
         let right = self.latency(starts);
         (right != usize::from(latency)).then(|| format!("the latency is {right}, not {latency}"))
@@ -128,7 +150,7 @@ impl Random {
             let to = (from + 1 + self.below(n - 1)) % n;
             (from as usize, to as usize, self.below(9) as i16 - 5)
         });
-        Batch { delays: delays.collect(), jobs, windows: None }
+        Batch { delays: delays.collect(), jobs, ..Batch::default() }
     }
 
     /// Such a batch with windows for some jobs or all, of edition 02.
@@ -141,5 +163,13 @@ impl Random {
             (job, earliest as u16, latest as u16)
         });
         Batch { windows: Some(windows.collect()), ..batch }
+    }
+
+    /// Such a batch, with windows or without, and with rests of some stations, of edition 02.
+    pub fn rested(&mut self, most: u64) -> Batch {
+        let batch = if self.below(2) == 0 { self.windowed(most) } else { Batch { windows: Some(Vec::new()), ..self.batch(most) } };
+        let chosen: Vec<usize> = (0..16).filter(|station| self.below(if *station < 3 { 2 } else { 8 }) == 0).collect();
+        let rests = chosen.into_iter().map(|station| (station, [1, 1 + self.below(2), 1 + self.below(7)][self.below(3) as usize] as u16));
+        Batch { rests: rests.collect(), ..batch }
     }
 }

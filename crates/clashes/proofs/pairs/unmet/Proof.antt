@@ -33,7 +33,6 @@ unmet-spec =
     (λ c κs. search needs)
     (λ c. search needs)
     (λ c. search needs)
-    (λ c. omega (arith, bit-small _ _ _ (c .before .bit-of .ensures)))
     (λ c. bit-small _ _ _ (c .before .bit-of .ensures))
     -- the pair has the bit of its starts: what is passed before it
     (λ c. passed-end _ _ _ _ _ _ _ (c .before .before .before .before .before .before .before .before .before .before .loop .inv .1))

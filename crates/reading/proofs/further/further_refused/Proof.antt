@@ -2,7 +2,9 @@
 use mathlib.Core.Path.{refl}
 use Rattle.model.specs.Common.{count}
 use Rattle.model.specs.Batch.{blankWindow}
+use Rattle.model.specs.Numbered.{placeIn}
 use Rattle.model.specs.Window.{windowIn, windowsOf}
+use Rattle.model.specs.Rest.{restIn, restsOf}
 use Rattle.model.specs.Format.{noFurther}
 use Rattle.reading.specs.Answer.{answerOf, valueOf}
 use Rattle.reading.specs.Further.{furtherTold}
@@ -10,5 +12,5 @@ use Rattle.reading.proofs.further.further_refused.Statement.{statement}
 use Rattle.reading.proofs.further.further_refused.Tie as tie
 
 pub further-refused-spec : {M : Type 1} → statement M
-unfolding furtherTold answerOf valueOf noFurther windowsOf windowIn blankWindow count
+unfolding furtherTold answerOf valueOf noFurther windowsOf windowIn restsOf restIn placeIn blankWindow count
 further-refused-spec = tie.close (tie.spec (λ c. refl))

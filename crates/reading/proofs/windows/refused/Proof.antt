@@ -2,6 +2,7 @@
 use mathlib.Core.Path.{refl}
 use Rattle.model.specs.Common.{count}
 use Rattle.model.specs.Batch.{blankWindow}
+use Rattle.model.specs.Numbered.{placeIn}
 use Rattle.model.specs.Window.{windowIn, windowsOf}
 use Rattle.reading.specs.Answer.{nextOf, valueOf}
 use Rattle.reading.specs.Window.{windowsTold}
@@ -9,5 +10,5 @@ use Rattle.reading.proofs.windows.refused.Statement.{statement}
 use Rattle.reading.proofs.windows.refused.Tie as tie
 
 pub refused-spec : {M : Type 1} → statement M
-unfolding windowsTold nextOf valueOf windowsOf windowIn blankWindow count
+unfolding windowsTold nextOf valueOf windowsOf windowIn placeIn blankWindow count
 refused-spec = tie.close (tie.spec (λ c. refl))

@@ -10,5 +10,5 @@ edition-pass-spec =
     (tie.spec
     (λ c. edition-two _ (c .if1 .taken))
     (λ c κs. search needs)
-    (λ c. edition-one _ (c .before .before .before .if1 .left) (c .before .if2 .taken) _ (c .no-windows .ensures))
+    (λ c. edition-one _ (c .before .before .before .if1 .left) (c .before .if2 .taken) _ (c .no-further .ensures))
     (λ c. edition-none _ (c .before .before .if1 .left) (c .if2 .left)))

@@ -8,6 +8,7 @@ use lib.ListN.{length-append}
 use Rattle.model.specs.Common.{joined}
 use Rattle.model.specs.Batch.{delaysOf}
 use Rattle.model.specs.Window.{windowText, windowLines}
+use Rattle.model.specs.Rest.{restText, restLines}
 use Rattle.model.specs.Format.{headerLine, jobLine, jobsOf, delayLine, furtherOf, furtherText, batchFile}
 use Rattle.writing.proofs.Lengths.{header-length}
 use Rattle.writing.proofs.Texts.{delays-length, batch-length, front-none, front-more}
@@ -30,13 +31,17 @@ put-batch-spec =
     (λ c κs.
     let start = c .before .before .before .before .before .before .before .before .before .before .before .before .before .before .before in
     (start .pre .0 .jobs, omega (arith, batch-length (start .args .batch))))
+    (λ c κs.
+    let start = c .before .before .before .before .before .before .before .before .before .before .before .before .before .before .before .before .before .before .before in
+    omega (arith, batch-length (start .args .batch)))
     (λ c. search needs)
     (λ c.
-    let b = c .before .before .before .before .before .before .before .before .before .before .before .before .before .before .before .before .before .before .args .batch in
-    let first = c .before .before .before .before .before .before .before .before .before .before .before .before .before .before .put-header .ensures in
-    let second = c .before .before .before .before .before .before .before .before .before .before .put-jobs .ensures in
-    let third = c .before .before .before .before .before .before .put-delays .ensures in
-    let fourth = c .before .before .put-windows .ensures in
+    let fifth = c .before .before in
+    let fourth = fifth .before .before .before .before in
+    let third = fourth .before .before .before .before in
+    let second = third .before .before .before .before in
+    let first = second .before .before .before .before in
+    let b = first .before .before .before .before .args .batch in
     let size = batch-length b in
     let length-head = header-length (b .edition) (b .n) (b .m) in
     let length-delays = delays-length b in
@@ -44,8 +49,12 @@ put-batch-spec =
     let jobs = joined jobLine (jobsOf b) in
     let delays = joined delayLine (delaysOf b) in
     let windows = joined windowText (windowLines b) in
-    let one = front-more head (front-none _) (omega arith) length-head (first .0) (first .1) in
-    let two = front-more jobs one (omega arith) refl (second .0) (second .1) in
-    let three = front-more delays two (omega (arith, length-append head jobs)) length-delays (third .0) (third .1) in
-    let four = front-more windows three (omega (arith, length-append head jobs, length-append (head ++ jobs) delays)) refl (fourth .0) (fourth .1) in
-    (omega arith, four .buffer-is ∙ ap (overwritten _ 0) (append-assoc (head ++ jobs) delays windows ∙ append-assoc head jobs (delays ++ windows)))))
+    let rests = joined restText (restLines b) in
+    let two-long = length-append head jobs in
+    let three-long = length-append (head ++ jobs) delays in
+    let one = front-more head (front-none _) (omega arith) length-head (first .put-header .ensures .0) (first .put-header .ensures .1) in
+    let two = front-more jobs one (omega arith) refl (second .put-jobs .ensures .0) (second .put-jobs .ensures .1) in
+    let three = front-more delays two (omega arith) length-delays (third .put-delays .ensures .0) (third .put-delays .ensures .1) in
+    let four = front-more windows three (omega arith) refl (fourth .put-windows .ensures .0) (fourth .put-windows .ensures .1) in
+    let five = front-more rests four (omega (arith, length-append ((head ++ jobs) ++ delays) windows)) refl (fifth .put-rests .ensures .0) (fifth .put-rests .ensures .1) in
+    (omega arith, five .buffer-is ∙ ap (overwritten _ 0) (append-assoc ((head ++ jobs) ++ delays) windows rests ∙ append-assoc (head ++ jobs) delays (windows ++ rests) ∙ append-assoc head jobs (delays ++ (windows ++ rests))))))

@@ -32,7 +32,7 @@ put-windows-spec =
     let batch = c .before .before .before .before .before .before .args .t3 in
     let i = c .before .before .before .loop .i in
     let room = filled-room _ _ _ (batch .n) (omega (arith, ap length (windows-text batch))) (c .before .before .before .loop .inv .1) (omega arith) in
-    omega (arith, ap length (read-window batch i i), room))
+    omega (arith, ap length (read-window batch i), room))
     (λ c. search needs)
     (λ c. search needs)
     -- one line more
@@ -41,9 +41,9 @@ put-windows-spec =
     let put = c .before .before .put-lined .ensures in (
       search needs,
       filled-more _ _ _ (batch .n) (omega (arith, ap length (windows-text batch))) (c .before .before .before .before .before .before .loop .inv .1) (omega arith)
-          (ap length (sym (read-window batch _ _)))
+          (ap length (sym (read-window batch _)))
           (put .0)
-          (put .1 ∙ ap (overwritten _ _) (read-window batch _ _)),
+          (put .1 ∙ ap (overwritten _ _) (read-window batch _)),
     ))
     (λ c. c .before .loop .inv .1 .same-length)
     -- all of them

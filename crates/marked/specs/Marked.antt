@@ -156,6 +156,34 @@ rows =
     ∷ refusedWith 20 (fileOf "A0020100 A1010001 A3010000FFFF A3000")
     ∷ refusedWith 8 (fileOf "A0010100 A1010001 A3000000FFFF")
     ∷ refusedWith 20 (fileOf "A0020202 A1010001 A1010002 A200010001 A201000000 A3020000FFFF")
+    -- rest (02, Q-5): ticks r apart are too close, and r + 1 are not, with both signs of the distance; a station's own rest, and no other's, station 15 too; the ticks of one
+    -- job may be closer; two stations with rests of their own
+    ∷ opens "A0020200 A1010001 A1010001 A40002" once 11 (planAt 4 11 (0 ∷ 3 ∷ []) ∷ [])
+    ∷ opens "A0020200 A1010001 A1010001 A30100000002 A40002" once 11 (planAt 4 11 (3 ∷ 0 ∷ []) ∷ [])
+    ∷ opens "A0020200 A1010001 A1010001 A40102" once 3 (planAt 2 3 (0 ∷ 1 ∷ []) ∷ [])
+    ∷ opens "A0020200 A1018000 A1018000 A40F01" once 7 (planAt 3 7 (0 ∷ 2 ∷ []) ∷ [])
+    ∷ opens "A0020100 A103000100000001 A40007" once 1 (planAt 3 1 (0 ∷ []) ∷ [])
+    ∷ opens "A0020300 A1010001 A1010002 A1010003 A40001 A40102" once 19 (planAt 4 19 (0 ∷ 0 ∷ 3 ∷ []) ∷ [])
+    -- between held ticks, not starts; with windows one tick too narrow, and wide enough
+    ∷ opens "A0020200 A10200010002 A10200020001 A40001" once 7 (planAt 4 7 (0 ∷ 2 ∷ []) ∷ [])
+    ∷ opens "A0020200 A1010001 A1010001 A30000000001 A30100000001 A40001" once 7 (noPlanAt 7 ∷ [])
+    ∷ opens "A0020200 A1010001 A1010001 A30000000002 A30100000002 A40001" once 7 (planAt 3 7 (0 ∷ 2 ∷ []) ∷ [])
+    -- 21: station 16, rest 0 and 8, a station twice, stations falling; before what is wrong in a later line, and before 10
+    ∷ refusedWith 21 (fileOf "A0020100 A1010001 A41001")
+    ∷ refusedWith 21 (fileOf "A0020100 A1010001 A40000")
+    ∷ refusedWith 21 (fileOf "A0020100 A1010001 A40008")
+    ∷ refusedWith 21 (fileOf "A0020100 A1010001 A40001 A40001")
+    ∷ refusedWith 21 (fileOf "A0020100 A1010001 A40101 A40001")
+    ∷ refusedWith 21 (fileOf "A0020100 A1010001 A40008 A3000")
+    ∷ refusedWith 21 (fileOf "A0020202 A1010001 A1010002 A200010001 A201000000 A40008")
+    -- 2 before 21, a byte too many, a kind that falls, one that is unknown; 1 before 2; 20 of the line before; 8 in edition 01
+    ∷ refusedWith 2 (fileOf "A0020100 A1010001 A410")
+    ∷ refusedWith 2 (fileOf "A0020100 A1010001 A4000101")
+    ∷ refusedWith 2 (fileOf "A0020100 A1010001 A40001 A3000000FFFF")
+    ∷ refusedWith 2 (fileOf "A0020100 A1010001 A40001 A70002")
+    ∷ refusedWith 1 (fileOf "A0020100 A1010001 A4000")
+    ∷ refusedWith 20 (fileOf "A0020100 A1010001 A3010000FFFF A40008")
+    ∷ refusedWith 8 (fileOf "A0010100 A1010001 A40001")
     -- 02's example of 3, edition 00, and edition 02 passes 3
     ∷ refusedWith 3 (fileOf "A0030100")
     ∷ refusedWith 3 (fileOf "A0000100")
@@ -240,11 +268,28 @@ planRows =
     ∷ judging "A0020200 A1010001 A1010002 A30000020004" (fileOf "B00102FFFF00000000 B1000002 B101FFFE") (accept tt)
     ∷ judging "A0020200 A1010001 A1010002 A30000020004" (fileOf "B00202000300000000 B1000002 B1010000") (refuse 17)
     ∷ judging "A0020100 A1010001 A3010000FFFF" [] (refuse 20)
+    -- rest (02, Q-5): r + 1 ticks apart pass, r are 19, in either order; the file's 21 comes first
+    ∷ judging "A0020200 A1010001 A1010001 A40002" (fileOf "B00102000400000000 B1000000 B1010003") (accept tt)
+    ∷ judging "A0020200 A1010001 A1010001 A40002" (fileOf "B00102000300000000 B1000000 B1010002") (refuse 19)
+    ∷ judging "A0020200 A1010001 A1010001 A40002" (fileOf "B00102000300000000 B1000002 B1010000") (refuse 19)
+    ∷ judging "A0020200 A1010001 A1010001 A40002" (fileOf "B00102FFFF00000000 B1000000 B101FFFE") (accept tt)
+    ∷ judging "A0020100 A1010001 A40008" [] (refuse 21)
     ∷ []
 
 pub marked-plans : map (λ r. judgeTold (judged (r .file) (r .text))) planRows ≡ map (λ r. r .stated) planRows
 unfolding definitions planRows judging characters fileOf c3
 marked-plans = refl
+
+-- ---- D with rest (02, Q-5): 12 jobs of one tick have 66 times 15 clashes at a rest of 7, and two of 10 and 11 ticks 34 more, which is 1,024; one tick more is 9
+
+unfoldable pub restLimit : String → List ℕ
+restLimit last =
+    fileOf "A0020E00 A1010001 A1010001 A1010001 A1010001 A1010001 A1010001 A1010001 A1010001 A1010001 A1010001 A1010001 A1010001 A10A0002000200020002000200020002000200020002"
+    ++ characters last ++ fileOf " A40007 A40107"
+
+pub limit-rest : (openTold (opened (restLimit "A10B00020002000200020002000200020002000200020002") .answer) ≡ accept tt) × (openTold (opened (restLimit "A10C000200020002000200020002000200020002000200020002") .answer) ≡ refuse 9)
+unfolding definitions characters fileOf restLimit
+limit-rest = (refl, refl)
 
 -- ---- the program
 
