@@ -66,10 +66,14 @@ fn gap_of(e: usize) -> usize
 }
 
 // The stations for which two ticks are too close, by the difference of the ticks + 22. Ticks further apart than the longest rest are too close for none.
+// Where no station rests nobody asks, and nothing is worked out.
 pub fn close_masks(rests: &[u8; 16], longest: usize) -> [u16; 45]
     requires { ⌜ Longest (now rests) longest 16 ⌝ }
-    ensures { λ r. ⌜ Closes (now (rests .entry)) r ⌝ }
+    ensures { λ r. ⌜ (0 < longest → Closes (now (rests .entry)) r) ⌝ }
 {
+    if longest == 0 {
+        return [0u16; 45];
+    }
     let end = 23 + longest;
     let mut close = [0u16; 45];
     let mut e = 22 - longest;
@@ -112,7 +116,7 @@ fn as_it_is(job: Job) -> [u16; 30]
 // The widened table where none rests more than `longest` ticks.
 pub fn widened(job: Job, close: &[u16; 45], longest: usize) -> [u16; 30]
     requires { ⌜ (job .ticks ≤ 16) × (longest ≤ 7) ⌝ }
-    ensures { λ r. ⌜ ((rests : List ℕ) → Longest rests longest 16 → Closes rests (now (close .entry)) → Widens rests job (7 - longest) (7 + job .ticks + longest) r) ⌝ }
+    ensures { λ r. ⌜ ((rests : List ℕ) → Longest rests longest 16 → (0 < longest → Closes rests (now (close .entry))) → Widens rests job (7 - longest) (7 + job .ticks + longest) r) ⌝ }
 {
     if longest == 0 {
         return as_it_is(job);

@@ -1,6 +1,6 @@
 -- `list::list_clashes` meets its contract. The invariants: what is left of the rows completes the list, and what is left of the jobs after job i
 -- completes its row.
-use Prim.Native.Nat.{ℕ, suc, _+_, _-_}
+use Prim.Native.Nat.{ℕ, suc, _+_, _-_, _<_}
 use mathlib.Core.Path.{_≡_, refl}
 use mathlib.Core.List.{List}
 use lib.ListN.{length, length-map, replicate}
@@ -17,7 +17,7 @@ use Rattle.clashes.proofs.list.list_clashes.Tie as tie
 
 -- what holds throughout
 abbrev Fixed : Batch → ℕ → ℕ → List ℕ → Type 0
-Fixed batch n longest close = ((n ≡ batch .n) × (length (batch .jobs) ≡ 24)) × (Longest (batch .rests) longest 16 × Closes (batch .rests) close)
+Fixed batch n longest close = ((n ≡ batch .n) × (length (batch .jobs) ≡ 24)) × (Longest (batch .rests) longest 16 × (0 < longest → Closes (batch .rests) close))
 
 abbrev Inv-loop2 : tie.InvT-loop2
 Inv-loop2 batch n longest close codes₀ count₀ i places end j₀ codes count j =

@@ -1,6 +1,7 @@
 -- `rest::close_masks` meets its contract. The invariant: the masks of the differences so far are in their places, and all others are 0.
 use Prim.Native.Nat.{_+_, _-_, _≤_}
 use mathlib.Core.Path.{_≡_, refl}
+use native.Mathlib.Omega.{arith}
 use borrow.Author.Needs.{needs}
 use Rattle.clashes.proofs.RestLaws.{Closing, closing-none, closing-more, closing-end}
 use Rattle.clashes.proofs.rest.close_masks.Statement.{statement}
@@ -16,6 +17,8 @@ pub close-masks-spec : {M : Type 1} → statement M
 close-masks-spec =
     tie.close
     (tie.spec Inv-loop μ-loop
+    -- no station rests
+    (λ c h. absurd (omega (arith, c .if1 .taken)))
     (λ c. search needs)
     (λ c. search needs)
     (λ c. ((refl, search needs), (search needs, closing-none _ _ _ refl)))
@@ -29,4 +32,4 @@ close-masks-spec =
     (λ c.
     let l = c .before .before .before .loop in
     (l .inv .0, (search needs, closing-more _ _ _ _ _ _ (l .inv .0 .1) (l .inv .1 .1) (l .inv .1 .0) (search needs) (c .before .gap-of .ensures) (c .close-at .ensures))))
-    (λ c. closing-end _ _ _ _ (c .before .before .pre) (c .before .loop .inv .1 .1) (search needs)))
+    (λ c h. closing-end _ _ _ _ (c .before .before .before .pre) (c .before .loop .inv .1 .1) (search needs)))

@@ -36,4 +36,4 @@ widened-spec =
     (l .inv .0, (search needs, widening-more _ _ _ _ _ _ _ (l .inv .1 .1) (search needs) refl (c .near-place .ensures))))
     (λ c rests l h.
     let i = c .before .loop .inv in
-    widening-end _ _ _ _ _ _ _ (i .1 .1) (search needs) (c .before .before .before .wide16 .ensures .0) rests h))
+    widening-end _ _ _ _ _ _ _ (i .1 .1) (search needs) (c .before .before .before .wide16 .ensures .0) rests (h (search needs))))

@@ -1,4 +1,5 @@
 -- `read_further` reads kind after kind, and asks for the end of the file.
+use native.Mathlib.Omega.{arith}
 use borrow.Author.Needs.{needs}
 use Rattle.reading.proofs.FurtherLaws.{windows-refused, windows-at, rests-refused, rests-at, further-windows, further-rests, further-left, further-read}
 use Rattle.reading.proofs.further.read_further.Statement.{statement}
