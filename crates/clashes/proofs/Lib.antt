@@ -1,8 +1,5 @@
 -- Laws about the definitions that the contracts cite, each stated in the code's shape.
 pub mod SeqLaws
-pub mod MaskLaws
-pub mod TableLaws
-pub mod RestLaws
 pub mod CodeLaws
 pub mod StoreLaws
 pub mod PairLaws

@@ -18,13 +18,13 @@ use Rattle.model.proofs.DistanceLaws.{close-le, le-close}
 use Rattle.model.proofs.ClashLaws.{Shared, clashing-shared, shared-clashing, in-plan}
 use Rattle.clashes.specs.declared.Clashes.{Clashes}
 use Rattle.clashes.specs.Code.{lift, codeOf}
-use Rattle.clashes.specs.Tables.{tableOf, tablesMeet}
-use Rattle.clashes.specs.Rest.{Longest, Widens}
+use Rattle.tables.specs.Tables.{tableOf, tablesMeet}
+use Rattle.tables.specs.Rest.{Longest, Widens}
 use Rattle.clashes.specs.List.{put, addAll, pairCodes, Grown, Tabled}
 use Rattle.clashes.proofs.SeqLaws.{keep-map}
 use Rattle.clashes.proofs.CodeLaws.{lift-sub}
-use Rattle.clashes.proofs.MaskLaws.{shares-some, some-shares}
-use Rattle.clashes.proofs.TableLaws.{Meets, meets-some, some-meets, tables-apart}
+use Rattle.tables.proofs.MaskLaws.{shares-some, some-shares}
+use Rattle.tables.proofs.TableLaws.{Meets, meets-some, some-meets, tables-apart}
 
 module _ (low end : ℕ) (places : List ℕ) (second : Job) (base : ℕ) where
   -- the codes from the distance k − 22 on

@@ -12,7 +12,7 @@ use Rattle.model.specs.Clash.{Clash, clashesOf, clashes}
 use Rattle.model.proofs.SeqLaws.{getD-same}
 use Rattle.clashes.specs.declared.Clashes.{Clashes}
 use Rattle.clashes.specs.Code.{codeOf}
-use Rattle.clashes.specs.Rest.{Resting, Longest, Widens}
+use Rattle.tables.specs.Rest.{Resting, Longest, Widens}
 use Rattle.clashes.specs.List.{listing, listOf, pairCodes, rowCodes, Grown, Tabled}
 use Rattle.clashes.proofs.StoreLaws.{full, add-empty}
 use Rattle.clashes.proofs.PairLaws.{pair-codes}

@@ -14,7 +14,7 @@ use Rattle.model.specs.Batch.{ticks, restOf}
 use Rattle.model.specs.Clash.{clashes, clashesOf}
 use Rattle.clashes.specs.declared.Clashes.{Clashes}
 use Rattle.clashes.specs.Code.{codeOf}
-use Rattle.clashes.specs.Tables.{tablesMeet}
+use Rattle.tables.specs.Tables.{tablesMeet}
 
 -- ---- the whole list
 

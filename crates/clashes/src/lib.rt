@@ -3,8 +3,6 @@
 mod first;
 mod list;
 mod pairs;
-mod rest;
-mod tables;
 
 pub use first::first_met;
 pub use list::list_clashes;

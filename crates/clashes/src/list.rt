@@ -1,14 +1,14 @@
 // The clash list of a batch: by i, then j, then d, all rising, each once. The loops over i and j stand in one function, since handing the batch on
 // would copy it, and the distances of a pair in one of their own. Job i's table is widened by the rests, once for all jobs after it.
 use crate::Clashes;
-use crate::rest::close_masks;
-use crate::rest::longest_rest;
-use crate::rest::widened;
-use crate::tables::tables_meet;
 use model::Batch;
 use model::Job;
 use model::wide;
 use model::wide16;
+use tables::close_masks;
+use tables::longest_rest;
+use tables::tables_meet;
+use tables::widened;
 ghost use mathlib.Core.Path.{_≡_};
 ghost use Prim.Native.Nat.{_*_, _≤_, _<_};
 ghost use Rattle.clashes.specs.List.{listing, put, pairCodes, listOf, Grown, Tabled};

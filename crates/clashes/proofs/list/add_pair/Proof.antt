@@ -4,7 +4,7 @@ use mathlib.Core.Path.{_≡_, refl, _∙_}
 use mathlib.Core.Logic.{⊎-elim}
 use native.Mathlib.Omega.{arith}
 use borrow.Author.Needs.{needs}
-use Rattle.clashes.specs.Tables.{tableOf}
+use Rattle.tables.specs.Tables.{tableOf}
 use Rattle.clashes.specs.List.{listing}
 use Rattle.clashes.proofs.PairLaws.{Pairing, pair-first, pair-in, pair-out, pair-last, pair-jobs}
 use Rattle.clashes.proofs.StoreLaws.{listing-same}

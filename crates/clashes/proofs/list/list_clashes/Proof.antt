@@ -8,7 +8,7 @@ use native.Mathlib.Omega.{arith}
 use borrow.Author.Needs.{needs}
 use Rattle.model.specs.declared.Batch.{Batch}
 use Rattle.model.specs.Clash.{clashesOf}
-use Rattle.clashes.specs.Rest.{Longest, Closes, Widens}
+use Rattle.tables.specs.Rest.{Longest, Closes, Widens}
 use Rattle.clashes.specs.List.{listing}
 use Rattle.clashes.proofs.GrowLaws.{Growing, grow-none}
 use Rattle.clashes.proofs.RowLaws.{rowOf, jobAt, job-short, resting, row-more, row-end, list-more, list-end}

@@ -13,7 +13,7 @@ use Rattle.model.specs.Common.{count, any, eqZ}
 use Rattle.model.proofs.BoolLaws.{apart, decide, both, and}
 use Rattle.model.proofs.ListLaws.{any-some, some-any, count-some, some-count}
 use Rattle.model.proofs.DistanceLaws.{eqZ-eq, eqZ-refl, sub-sum, sum-sub}
-use Rattle.clashes.specs.Tables.{shares, tablesMeet}
+use Rattle.tables.specs.Tables.{shares, tablesMeet}
 
 module _ (low end : ℕ) (places : List ℕ) (second : Job) (k : ℕ) where
   -- place x shares a station with the tick of the second table that is at distance k − 15

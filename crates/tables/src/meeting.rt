@@ -4,7 +4,7 @@
 ghost use mathlib.Core.Path.{_≡_};
 ghost use Prim.Native.Nat.{_+_, _-_, _≤_, _<_, min, max};
 ghost use lib.IntN.{subℕ};
-ghost use Rattle.clashes.specs.Tables.{shares, tableOf, tablesMeet};
+ghost use Rattle.tables.specs.Tables.{shares, tableOf, tablesMeet};
 
 // Some station is in both masks.
 fn share(first: u16, second: u16) -> bool

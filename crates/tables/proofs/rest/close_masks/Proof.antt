@@ -3,9 +3,9 @@ use Prim.Native.Nat.{_+_, _-_, _≤_}
 use mathlib.Core.Path.{_≡_, refl}
 use native.Mathlib.Omega.{arith}
 use borrow.Author.Needs.{needs}
-use Rattle.clashes.proofs.RestLaws.{Closing, closing-none, closing-more, closing-end}
-use Rattle.clashes.proofs.rest.close_masks.Statement.{statement}
-use Rattle.clashes.proofs.rest.close_masks.Tie as tie
+use Rattle.tables.proofs.RestLaws.{Closing, closing-none, closing-more, closing-end}
+use Rattle.tables.proofs.rest.close_masks.Statement.{statement}
+use Rattle.tables.proofs.rest.close_masks.Tie as tie
 
 abbrev Inv-loop : tie.InvT-loop
 Inv-loop rests longest end close₀ e₀ close e = ((end ≡ 23 + longest) × (longest ≤ 7)) × ((22 - longest ≤ e) × Closing rests longest close e)

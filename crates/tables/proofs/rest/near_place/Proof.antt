@@ -3,10 +3,10 @@ use Prim.Native.Nat.{ℕ, _≤_, _-_}
 use mathlib.Core.Path.{_≡_}
 use mathlib.Core.List.{List}
 use borrow.Author.Needs.{needs}
-use Rattle.clashes.specs.Rest.{Closes, Near}
-use Rattle.clashes.proofs.RestLaws.{near-none, near-more}
-use Rattle.clashes.proofs.rest.near_place.Statement.{statement}
-use Rattle.clashes.proofs.rest.near_place.Tie as tie
+use Rattle.tables.specs.Rest.{Closes, Near}
+use Rattle.tables.proofs.RestLaws.{near-none, near-more}
+use Rattle.tables.proofs.rest.near_place.Statement.{statement}
+use Rattle.tables.proofs.rest.near_place.Tie as tie
 
 abbrev Inv-loop : tie.InvT-loop
 Inv-loop p masks close x mask₀ a₀ mask a = (a ≤ p) × ((rests : List ℕ) → Closes rests close → Near rests masks a x mask)

@@ -1,9 +1,9 @@
 -- `rest::as_it_is` meets its contract. The invariant: the masks so far stand in their places.
 use Prim.Native.Nat.{_≤_, _-_}
 use borrow.Author.Needs.{needs}
-use Rattle.clashes.proofs.RestLaws.{Copied, copied-none, copied-more, as-it-is}
-use Rattle.clashes.proofs.rest.as_it_is.Statement.{statement}
-use Rattle.clashes.proofs.rest.as_it_is.Tie as tie
+use Rattle.tables.proofs.RestLaws.{Copied, copied-none, copied-more, as-it-is}
+use Rattle.tables.proofs.rest.as_it_is.Statement.{statement}
+use Rattle.tables.proofs.rest.as_it_is.Tie as tie
 
 abbrev Inv-loop : tie.InvT-loop
 Inv-loop masks places₀ a₀ places a = (a ≤ 16) × Copied masks places a

@@ -2,10 +2,10 @@
 use Prim.Native.Nat.{_+_, _-_, _≤_}
 use mathlib.Core.Path.{_≡_, refl}
 use borrow.Author.Needs.{needs}
-use Rattle.clashes.specs.Tables.{tableOf}
-use Rattle.clashes.proofs.RestLaws.{plain-widens, Widening, widening-none, widening-more, widening-end}
-use Rattle.clashes.proofs.rest.widened.Statement.{statement}
-use Rattle.clashes.proofs.rest.widened.Tie as tie
+use Rattle.tables.specs.Tables.{tableOf}
+use Rattle.tables.proofs.RestLaws.{plain-widens, Widening, widening-none, widening-more, widening-end}
+use Rattle.tables.proofs.rest.widened.Statement.{statement}
+use Rattle.tables.proofs.rest.widened.Tie as tie
 
 abbrev Inv-loop : tie.InvT-loop
 Inv-loop close longest p masks end places₀ x₀ places x = ((end ≡ 7 + p + longest) × ((p ≤ 16) × (longest ≤ 7))) × ((x ≤ end) × Widening close (tableOf p masks) (7 - longest) places x)

@@ -6,7 +6,7 @@ use model::wide16;
 ghost use mathlib.Core.Path.{_≡_};
 ghost use mathlib.Core.List.{List};
 ghost use Prim.Native.Nat.{ℕ, _+_, _-_, _≤_, _<_, max};
-ghost use Rattle.clashes.specs.Rest.{Resting, Longest, closeMask, CloseAt, Closes, Near, Widens};
+ghost use Rattle.tables.specs.Rest.{Resting, Longest, closeMask, CloseAt, Closes, Near, Widens};
 
 fn longer(a: u8, b: u8) -> u8
     ensures { λ r. ⌜ r ≡ max a b ⌝ }

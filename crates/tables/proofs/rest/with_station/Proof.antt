@@ -6,9 +6,9 @@ use lib.Pow.{shl-exact}
 use borrow.Author.Needs.{needs}
 use borrow.Author.Tests.{le-leb, lt-leb}
 use Rattle.model.specs.Common.{if_then_else_}
-use Rattle.clashes.specs.Rest.{closeMask}
-use Rattle.clashes.proofs.rest.with_station.Statement.{statement}
-use Rattle.clashes.proofs.rest.with_station.Tie as tie
+use Rattle.tables.specs.Rest.{closeMask}
+use Rattle.tables.proofs.rest.with_station.Statement.{statement}
+use Rattle.tables.proofs.rest.with_station.Tie as tie
 
 pub with-station-spec : {M : Type 1} → statement M
 unfolding closeMask if_then_else_

@@ -21,8 +21,8 @@ use Rattle.model.proofs.BoolLaws.{apart, decide, same-test}
 use Rattle.model.proofs.SeqLaws.{blanks-at}
 use Rattle.model.proofs.BitLaws.{bit-zero, zero-bit, bit-suc, bit-none}
 use Rattle.model.proofs.DistanceLaws.{sum-sub, close-le, le-close}
-use Rattle.clashes.specs.Tables.{tableOf}
-use Rattle.clashes.specs.Rest.{Resting, Longest, closeMask, CloseAt, Closes, Near, Widens}
+use Rattle.tables.specs.Tables.{tableOf}
+use Rattle.tables.specs.Rest.{Resting, Longest, closeMask, CloseAt, Closes, Near, Widens}
 
 -- ---- bits
 

@@ -1,12 +1,12 @@
--- `tables::tables_meet` meets its contract. The invariant: no place before x, of those that lie over a tick of the second table, shares a station.
+-- `meeting::tables_meet` meets its contract. The invariant: no place before x, of those that lie over a tick of the second table, shares a station.
 use Prim.Native.Nat.{_+_, _-_, min}
 use mathlib.Core.Path.{_≡_}
 use borrow.Author.Count.{falls}
 use borrow.Author.Needs.{needs}
-use Rattle.clashes.specs.Tables.{tableOf}
-use Rattle.clashes.proofs.TableLaws.{Clear, clear-none, clear-more, tables-met, tables-clear}
-use Rattle.clashes.proofs.tables.tables_meet.Statement.{statement}
-use Rattle.clashes.proofs.tables.tables_meet.Tie as tie
+use Rattle.tables.specs.Tables.{tableOf}
+use Rattle.tables.proofs.TableLaws.{Clear, clear-none, clear-more, tables-met, tables-clear}
+use Rattle.tables.proofs.meeting.tables_meet.Statement.{statement}
+use Rattle.tables.proofs.meeting.tables_meet.Tie as tie
 
 abbrev Inv-loop : tie.InvT-loop
 Inv-loop low end first q second k last x₀ x = (last ≡ min end (q + k - 15)) × Clear low end first (tableOf q second) k x

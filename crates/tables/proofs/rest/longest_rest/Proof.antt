@@ -2,10 +2,10 @@
 use Prim.Native.Nat.{_≤_, _-_}
 use mathlib.Core.Path.{_≡_}
 use borrow.Author.Needs.{needs}
-use Rattle.clashes.specs.Rest.{Longest}
-use Rattle.clashes.proofs.RestLaws.{longest-none, longest-more}
-use Rattle.clashes.proofs.rest.longest_rest.Statement.{statement}
-use Rattle.clashes.proofs.rest.longest_rest.Tie as tie
+use Rattle.tables.specs.Rest.{Longest}
+use Rattle.tables.proofs.RestLaws.{longest-none, longest-more}
+use Rattle.tables.proofs.rest.longest_rest.Statement.{statement}
+use Rattle.tables.proofs.rest.longest_rest.Tie as tie
 
 abbrev Inv-loop : tie.InvT-loop
 Inv-loop rests longest₀ s₀ longest s = (s ≤ 16) × Longest rests longest s

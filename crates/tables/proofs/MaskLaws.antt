@@ -13,7 +13,7 @@ use Rattle.model.specs.Common.{count}
 use Rattle.model.proofs.BoolLaws.{decide, both, and}
 use Rattle.model.proofs.ListLaws.{any-some, some-any, count-some, some-count}
 use Rattle.model.proofs.BitLaws.{bit-zero, zero-bit, bit-suc}
-use Rattle.clashes.specs.Tables.{shares}
+use Rattle.tables.specs.Tables.{shares}
 
 -- masks that share a station have one in common
 pub shares-some : (m m′ : ℕ) → shares m m′ ≡ true → (s : ℕ) × (s < 16) × (bit m s ≡ true) × (bit m′ s ≡ true)

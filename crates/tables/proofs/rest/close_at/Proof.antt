@@ -2,10 +2,10 @@
 use Prim.Native.Nat.{_≤_, _-_}
 use mathlib.Core.Path.{_≡_, refl}
 use borrow.Author.Needs.{needs}
-use Rattle.clashes.specs.Rest.{CloseAt}
-use Rattle.clashes.proofs.RestLaws.{close-none, close-more}
-use Rattle.clashes.proofs.rest.close_at.Statement.{statement}
-use Rattle.clashes.proofs.rest.close_at.Tie as tie
+use Rattle.tables.specs.Rest.{CloseAt}
+use Rattle.tables.proofs.RestLaws.{close-none, close-more}
+use Rattle.tables.proofs.rest.close_at.Statement.{statement}
+use Rattle.tables.proofs.rest.close_at.Tie as tie
 
 abbrev Inv-loop : tie.InvT-loop
 Inv-loop rests gap mask₀ s₀ mask s = (s ≤ 16) × CloseAt rests gap mask s
