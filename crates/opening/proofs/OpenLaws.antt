@@ -13,10 +13,10 @@ use Rattle.model.specs.Open.{fewClashes, delaysMet, readFile, openFile, openedA
 use Rattle.model.proofs.OutcomeLaws.{accepts-bind, accepts-require}
 use Rattle.model.proofs.LimitLaws.{limits-within}
 use Rattle.model.proofs.FileLaws.{read-limits}
+use Rattle.model.proofs.BoolLaws.{passes, fails}
+use Rattle.frame_read.proofs.Tests.{refuses-require, refuses-bind}
 use Rattle.reading.specs.declared.batch.BatchRead.{BatchRead}
 use Rattle.reading.specs.Read.{batchTold}
-use Rattle.model.proofs.BoolLaws.{passes, fails}
-use Rattle.reading.proofs.Tests.{refuses-require, refuses-bind}
 use Rattle.reading.proofs.Told.{batch-refused, batch-accepted}
 
 -- by what `read_batch` answers

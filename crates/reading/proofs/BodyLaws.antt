@@ -11,15 +11,15 @@ use Rattle.model.specs.Batch.{blankJob, blankDelay}
 use Rattle.model.specs.Format.{Further, batchOf}
 use Rattle.model.specs.Open.{job, delay, readAll, readRest}
 use Rattle.model.proofs.OutcomeLaws.{accepts-bind}
-use Rattle.reading.specs.declared.Next.the-variants.{At, Refused}
+use Rattle.frame_read.specs.declared.Next.the-variants.{At, Refused}
+use Rattle.frame_read.specs.Answer.{placeOf, nextOf}
+use Rattle.frame_read.proofs.Tests.{refuses-bind}
+use Rattle.frame_read.proofs.Told.{next-refused}
+use Rattle.frame_read.proofs.FileRest.{all-rest}
 use Rattle.reading.specs.declared.jobs.JobsRead.{JobsRead}
 use Rattle.reading.specs.declared.delays.DelaysRead.{DelaysRead}
 use Rattle.reading.specs.declared.batch.BatchRead.{BatchRead}
-use Rattle.reading.specs.Answer.{placeOf, nextOf}
 use Rattle.reading.specs.Read.{arrayOf, jobsTold, delaysTold, batchTold, batchWith, readEnd, readBody}
-use Rattle.reading.proofs.Tests.{refuses-bind}
-use Rattle.reading.proofs.Told.{next-refused}
-use Rattle.reading.proofs.FileRest.{all-rest}
 
 -- ---- the answers
 

@@ -9,13 +9,13 @@ use Rattle.model.specs.Common.{Outcome, refuse, accept}
 use Rattle.model.specs.Open.{countsOk, header, due, readOne, readFile}
 use Rattle.model.proofs.OutcomeLaws.{accept-eq, bind-accepts, accepts-bind, require-accepts}
 use Rattle.model.proofs.LimitLaws.{counts-iff}
+use Rattle.frame_read.specs.Answer.{placeOf}
+use Rattle.frame_read.proofs.Tests.{refuses-bind}
+use Rattle.frame_read.proofs.FileRest.{one-rest}
 use Rattle.reading.specs.declared.batch.HeaderRead.{HeaderRead}
 use Rattle.reading.specs.declared.batch.HeaderRead.the-variants.{Counts, Refused}
 use Rattle.reading.specs.declared.batch.BatchRead.{BatchRead}
-use Rattle.reading.specs.Answer.{placeOf}
 use Rattle.reading.specs.Read.{firstTold, batchTold, readBody}
-use Rattle.reading.proofs.Tests.{refuses-bind}
-use Rattle.reading.proofs.FileRest.{one-rest}
 
 -- a header that was read is within its limits
 header-limits : (f : List ℕ) (counts : ℕ × ℕ × ℕ) → header f ≡ accept counts → countsOk (counts .1) (counts .2) ≡ true

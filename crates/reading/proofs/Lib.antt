@@ -1,23 +1,7 @@
--- Laws about reading, from the numbers and the bytes of a frame up to the whole file. They serve the proofs here.
-pub mod Signed
-pub mod Tests
-pub mod Bytes
-pub mod Pad
-pub mod Wides
-pub mod HeaderLaws
-pub mod JobLaws
-pub mod DelayLaws
-pub mod NumberedLaws
-pub mod One
+-- Laws about reading a whole file, frame after frame. They serve the proofs here; opening takes `Told`.
 pub mod Reading
-pub mod Kind
 pub mod Told
 pub mod Places
-pub mod NumberedKind
-pub mod WindowLaws
-pub mod RestLaws
-pub mod FileRest
-pub mod KindRest
-pub mod FurtherLaws
+pub mod EndLaws
 pub mod BodyLaws
 pub mod FileLaws

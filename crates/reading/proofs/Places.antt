@@ -1,26 +1,21 @@
--- A place of the file and the rest of the file from there, and the answers that give a place.
+-- The answers that give a place of the file.
 use Prim.Native.Nat.{ℕ, _≤_}
 use mathlib.Core.Path.{_≡_, ap, ap₂, sym, _∙_}
 use mathlib.Core.List.{List}
-use native.Mathlib.Omega.{arith}
-use lib.ListN.{length, drop, length-drop}
+use lib.ListN.{length, drop}
 use Rattle.model.specs.declared.Job.{Job}
 use Rattle.model.specs.declared.Delay.{Delay}
 use Rattle.model.specs.Common.{refuse, accept}
 use Rattle.model.specs.Batch.{blankJob, blankDelay}
 use Rattle.model.specs.Open.{header, job, delay, readOne, readAll}
-use Rattle.reading.specs.declared.Next.the-variants.{At}
+use Rattle.frame_read.specs.declared.Next.the-variants.{At}
+use Rattle.frame_read.specs.Answer.{nextOf}
+use Rattle.frame_read.proofs.FileRest.{place-drop}
 use Rattle.reading.specs.declared.jobs.JobsRead.{JobsRead}
 use Rattle.reading.specs.declared.delays.DelaysRead.{DelaysRead}
 use Rattle.reading.specs.declared.batch.HeaderRead.the-variants.{Counts, Refused as NoHeader}
-use Rattle.reading.specs.Answer.{placeOf, nextOf}
 use Rattle.reading.specs.Read.{firstTold, arrayOf, jobsTold, delaysTold}
 use Rattle.reading.proofs.Reading.{Reading, reading-whole}
-
--- the place of the rest from a place
-pub place-drop : (file : List ℕ) (at : ℕ) → at ≤ length file → placeOf file (drop at file) ≡ at
-unfolding placeOf
-place-drop file at l = omega (arith, length-drop at file)
 
 -- the header is refused
 pub header-stopped : (file : List ℕ) (k : ℕ) → readOne header (drop 0 file) ≡ refuse k → NoHeader k ≡ firstTold file (readOne header file)

@@ -8,9 +8,9 @@ use lib.ListN.{length, set, drop, replicate, length-append}
 use Rattle.model.specs.Common.{pad, Outcome, refuse, accept, _>>=_}
 use Rattle.model.specs.Open.{readOne, readAll}
 use Rattle.model.proofs.OutcomeLaws.{accepts-bind}
-use Rattle.reading.proofs.Tests.{refuses-bind}
 use Rattle.model.proofs.SeqLaws.{pad-put}
-use Rattle.reading.proofs.Pad.{pad-nil}
+use Rattle.frame_read.proofs.Tests.{refuses-bind}
+use Rattle.frame_read.proofs.Pad.{pad-nil}
 
 module _ {A : Type 0} where
   -- what is read from a place, put behind what has been read

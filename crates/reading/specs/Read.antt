@@ -12,12 +12,12 @@ use Rattle.model.specs.Window.{windowsOf}
 use Rattle.model.specs.Rest.{restsOf}
 use Rattle.model.specs.Format.{Further, noFurther, batchOf}
 use Rattle.model.specs.Open.{job, delay, readAll, readRest}
+use Rattle.frame_read.specs.Answer.{answerOf, valueOf, placeOf, nextOf}
 use Rattle.reading.specs.declared.jobs.JobsRead.{JobsRead}
 use Rattle.reading.specs.declared.delays.DelaysRead.{DelaysRead}
 use Rattle.reading.specs.declared.batch.HeaderRead.{HeaderRead}
 use Rattle.reading.specs.declared.batch.HeaderRead.the-variants.{Counts, Refused as NoHeader}
 use Rattle.reading.specs.declared.batch.BatchRead.{BatchRead}
-use Rattle.reading.specs.Answer.{answerOf, valueOf, placeOf, nextOf}
 
 -- the header's edition, n and m with the place behind it, or the refusal's number
 unfoldable pub firstTold : List ℕ → Outcome ((ℕ × ℕ × ℕ) × List ℕ) → HeaderRead

@@ -1,14 +1,14 @@
 // A whole batch file: its header, its jobs, its delays, and what its edition has after them.
-use crate::Next;
 use crate::delays::read_delays;
-use crate::frame::word;
-use crate::further::FurtherRead;
-use crate::further::further_refused;
-use crate::further::read_further;
-use crate::header::Header;
-use crate::header::header_frame;
-use crate::job::NO_JOB;
 use crate::jobs::read_jobs;
+use frame_read::Next;
+use frame_read::frame::word;
+use frame_read::header::Header;
+use frame_read::header::header_frame;
+use frame_read::job::NO_JOB;
+use further_read::FurtherRead;
+use further_read::further_refused;
+use further_read::read_further;
 use lines::Line;
 use lines::line_at;
 use model::Batch;
@@ -25,7 +25,7 @@ ghost use lib.ListN.{length, drop};
 ghost use Rattle.model.specs.Common.{refuse};
 ghost use Rattle.model.specs.Format.{noFurther, batchOf};
 ghost use Rattle.model.specs.Open.{header, readOne, readRest, readFile};
-ghost use Rattle.reading.specs.Further.{furtherTold};
+ghost use Rattle.further_read.specs.Further.{furtherTold};
 ghost use Rattle.reading.specs.Read.{firstTold, batchTold, readEnd, readBody};
 
 // The edition, n, m and the place behind the header, or the refusal's number.

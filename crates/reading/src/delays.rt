@@ -1,7 +1,7 @@
 // The delay lines of a batch file, one after the other.
-use crate::Next;
-use crate::delay::DelayFrame;
-use crate::delay::delay_frame;
+use frame_read::Next;
+use frame_read::delay::DelayFrame;
+use frame_read::delay::delay_frame;
 use lines::Line;
 use lines::line_at;
 use model::Delay;

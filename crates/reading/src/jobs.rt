@@ -1,7 +1,7 @@
 // The job lines of a batch file, one after the other.
-use crate::Next;
-use crate::job::NO_JOB;
-use crate::job::job_frame;
+use frame_read::Next;
+use frame_read::job::NO_JOB;
+use frame_read::job::job_frame;
 use lines::Line;
 use lines::line_at;
 use model::Job;

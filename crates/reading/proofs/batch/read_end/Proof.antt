@@ -1,6 +1,6 @@
 -- `read_end` reads what follows the delays, and puts it beside the jobs and the delays.
 use borrow.Author.Needs.{needs}
-use Rattle.reading.proofs.FurtherLaws.{end-refused, end-read}
+use Rattle.reading.proofs.EndLaws.{end-refused, end-read}
 use Rattle.reading.proofs.batch.read_end.Statement.{statement}
 use Rattle.reading.proofs.batch.read_end.Tie as tie
 

@@ -1,9 +1,9 @@
 -- `read_header` reads the first line, and its frame.
 use native.Mathlib.Omega.{arith}
 use Rattle.lines.proofs.Framed.{line-frame, line-broken}
-use Rattle.reading.proofs.Bytes.{framed-inside}
-use Rattle.reading.proofs.One.{one-nothing, one-broken, one-refused, one-read}
-use Rattle.reading.proofs.Told.{header-refused, header-counts}
+use Rattle.frame_read.proofs.Bytes.{framed-inside}
+use Rattle.frame_read.proofs.One.{one-nothing, one-broken, one-refused, one-read}
+use Rattle.frame_read.proofs.Told.{header-refused, header-counts}
 use Rattle.reading.proofs.Places.{header-stopped, header-whole}
 use borrow.Author.Needs.{needs}
 use Rattle.reading.proofs.batch.read_header.Statement.{statement}

@@ -6,7 +6,7 @@ use Rattle.model.specs.Batch.{blankWindow}
 use Rattle.model.specs.Numbered.{placeIn}
 use Rattle.model.specs.Window.{windowIn, windowsOf}
 use Rattle.model.specs.Rest.{restIn, restsOf}
-use Rattle.reading.proofs.FurtherLaws.{rest-second, rest-more, rest-none}
+use Rattle.reading.proofs.EndLaws.{rest-second, rest-more, rest-none}
 use Rattle.reading.proofs.batch.read_rest.Statement.{statement}
 use Rattle.reading.proofs.batch.read_rest.Tie as tie
 

@@ -2,7 +2,7 @@
 use mathlib.Core.Path.{ap}
 use Rattle.model.specs.declared.Batch.{Batch}
 use Rattle.model.specs.declared.Opening.the-variants.{Refused}
-use Rattle.reading.specs.Answer.{answerOf, valueOf}
+use Rattle.frame_read.specs.Answer.{answerOf, valueOf}
 use Rattle.reading.specs.Read.{batchTold}
 use borrow.Author.Needs.{needs}
 use Rattle.reading.proofs.batch.refused.Statement.{statement}

@@ -8,10 +8,10 @@ use Rattle.model.specs.Batch.{blankDelay}
 use Rattle.model.specs.Open.{delay}
 use Rattle.lines.proofs.Framed.{line-frame, line-broken}
 use Rattle.reading.specs.Read.{delaysTold}
-use Rattle.reading.proofs.Bytes.{framed-inside}
-use Rattle.reading.proofs.One.{one-nothing, one-broken, one-refused, one-read}
+use Rattle.frame_read.proofs.Bytes.{framed-inside}
+use Rattle.frame_read.proofs.One.{one-nothing, one-broken, one-refused, one-read}
 use Rattle.reading.proofs.Reading.{Reading, reading-start, reading-more, stopped}
-use Rattle.reading.proofs.Told.{delay-refused, delay-found}
+use Rattle.frame_read.proofs.Told.{delay-refused, delay-found}
 use Rattle.reading.proofs.Places.{delays-whole}
 use Rattle.reading.proofs.delays.read_delays.Statement.{statement}
 use Rattle.reading.proofs.delays.read_delays.Tie as tie

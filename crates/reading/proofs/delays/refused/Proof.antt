@@ -2,7 +2,7 @@
 use mathlib.Core.Path.{refl}
 use Rattle.model.specs.Common.{pad}
 use Rattle.model.specs.Batch.{blankDelay}
-use Rattle.reading.specs.Answer.{nextOf}
+use Rattle.frame_read.specs.Answer.{nextOf}
 use Rattle.reading.specs.Read.{arrayOf, delaysTold}
 use Rattle.reading.proofs.delays.refused.Statement.{statement}
 use Rattle.reading.proofs.delays.refused.Tie as tie

@@ -8,10 +8,10 @@ use Rattle.model.specs.Batch.{blankJob}
 use Rattle.model.specs.Open.{job}
 use Rattle.lines.proofs.Framed.{line-frame, line-broken}
 use Rattle.reading.specs.Read.{jobsTold}
-use Rattle.reading.proofs.Bytes.{framed-inside}
-use Rattle.reading.proofs.One.{one-nothing, one-broken, one-refused, one-read}
+use Rattle.frame_read.proofs.Bytes.{framed-inside}
+use Rattle.frame_read.proofs.One.{one-nothing, one-broken, one-refused, one-read}
 use Rattle.reading.proofs.Reading.{Reading, reading-start, reading-more, stopped}
-use Rattle.reading.proofs.Told.{job-refused, job-accepted}
+use Rattle.frame_read.proofs.Told.{job-refused, job-accepted}
 use Rattle.reading.proofs.Places.{jobs-whole}
 use Rattle.reading.proofs.jobs.read_jobs.Statement.{statement}
 use Rattle.reading.proofs.jobs.read_jobs.Tie as tie

@@ -2,7 +2,7 @@
 use mathlib.Core.Path.{refl}
 use Rattle.model.specs.Common.{pad}
 use Rattle.model.specs.Batch.{blankJob}
-use Rattle.reading.specs.Answer.{nextOf}
+use Rattle.frame_read.specs.Answer.{nextOf}
 use Rattle.reading.specs.Read.{arrayOf, jobsTold}
 use Rattle.reading.proofs.jobs.refused.Statement.{statement}
 use Rattle.reading.proofs.jobs.refused.Tie as tie
