@@ -6,7 +6,7 @@ use reading::frame::frame_is;
 use reading::frame::frame_wide;
 ghost use Prim.Native.Nat.{_≤_};
 ghost use lib.ListN.{length};
-ghost use Rattle.judging.specs.Claim.{ReadsHead, ReadsJob};
+ghost use Rattle.claims.specs.Claim.{ReadsHead, ReadsJob};
 
 // n, the latency and the place behind the line; or no B0 line with 01. The total is not judged, and not read.
 pub enum Head {

@@ -9,7 +9,7 @@ ghost use lib.ListN.{length, drop};
 ghost use lib.Dec.{eqb};
 ghost use Rattle.model.specs.Common.{refuse};
 ghost use Rattle.model.specs.Judge.{readLines};
-ghost use Rattle.judging.specs.JobLines.{linesTold, stored};
+ghost use Rattle.claims.specs.JobLines.{linesTold, stored};
 
 // Whether all of them are B1 lines; if so how many, whether they name the jobs 0, 1, .. in order, and the starts of the first 24, with 0
 // in the places past them. Otherwise `formed` and `ordered` are false, and all else is 0.

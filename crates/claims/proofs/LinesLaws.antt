@@ -21,8 +21,8 @@ use Rattle.model.proofs.ListLaws.{count-length}
 use Rattle.model.proofs.SeqLaws.{count-snoc, map-snoc, pad-put}
 use Rattle.model.proofs.ClaimLaws.{lines-none, lines-stop, lines-more}
 use Rattle.reading.proofs.Tests.{refuses-bind}
-use Rattle.judging.specs.declared.job_lines.Lines.{Lines}
-use Rattle.judging.specs.JobLines.{stored, linesTold}
+use Rattle.claims.specs.declared.job_lines.Lines.{Lines}
+use Rattle.claims.specs.JobLines.{stored, linesTold}
 
 -- lists that are the same, and one more item each
 same-snoc : (xs ys : List ℕ) (x y : ℕ) → length xs ≡ length ys → same (xs ++ (x ∷ [])) (ys ++ (y ∷ [])) ≡ (same xs ys && eqb x y)

@@ -4,9 +4,9 @@ use mathlib.Core.Path.{refl}
 use borrow.Author.Needs.{needs}
 use Rattle.lines.proofs.Framed.{line-frame, line-broken}
 use Rattle.reading.proofs.Bytes.{framed-inside}
-use Rattle.judging.proofs.ReadLaws.{head-none, head-other, head-place, head-edition, head-read}
-use Rattle.judging.proofs.claim.read_head.Statement.{statement}
-use Rattle.judging.proofs.claim.read_head.Tie as tie
+use Rattle.claims.proofs.ReadLaws.{head-none, head-other, head-place, head-edition, head-read}
+use Rattle.claims.proofs.claim.read_head.Statement.{statement}
+use Rattle.claims.proofs.claim.read_head.Tie as tie
 
 pub read-head-spec : {M : Type 1} → statement M
 read-head-spec =

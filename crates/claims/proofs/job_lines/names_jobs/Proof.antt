@@ -1,8 +1,8 @@
 -- `job_lines::names_jobs` asks n, then the order, then how many lines there are.
 use borrow.Author.Needs.{needs}
 use borrow.Author.Tests.{eq-eqb, ne-eqb}
-use Rattle.judging.proofs.job_lines.names_jobs.Statement.{statement}
-use Rattle.judging.proofs.job_lines.names_jobs.Tie as tie
+use Rattle.claims.proofs.job_lines.names_jobs.Statement.{statement}
+use Rattle.claims.proofs.job_lines.names_jobs.Tie as tie
 
 pub names-jobs-spec : {M : Type 1} → statement M
 names-jobs-spec =

@@ -4,9 +4,9 @@ use mathlib.Core.Path.{refl}
 use borrow.Author.Needs.{needs}
 use Rattle.lines.proofs.Framed.{line-frame, line-broken}
 use Rattle.reading.proofs.Bytes.{framed-inside}
-use Rattle.judging.proofs.ReadLaws.{job-none, job-other, job-place, job-read}
-use Rattle.judging.proofs.claim.read_job.Statement.{statement}
-use Rattle.judging.proofs.claim.read_job.Tie as tie
+use Rattle.claims.proofs.ReadLaws.{job-none, job-other, job-place, job-read}
+use Rattle.claims.proofs.claim.read_job.Statement.{statement}
+use Rattle.claims.proofs.claim.read_job.Tie as tie
 
 pub read-job-spec : {M : Type 1} → statement M
 read-job-spec =

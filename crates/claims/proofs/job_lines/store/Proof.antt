@@ -2,9 +2,9 @@
 use borrow.Author.Needs.{needs}
 use borrow.Author.Tests.{lt-ltb, le-ltb}
 use Rattle.model.specs.Common.{if_then_else_}
-use Rattle.judging.specs.JobLines.{stored}
-use Rattle.judging.proofs.job_lines.store.Statement.{statement}
-use Rattle.judging.proofs.job_lines.store.Tie as tie
+use Rattle.claims.specs.JobLines.{stored}
+use Rattle.claims.proofs.job_lines.store.Statement.{statement}
+use Rattle.claims.proofs.job_lines.store.Tie as tie
 
 pub store-spec : {M : Type 1} → statement M
 unfolding stored if_then_else_

@@ -4,10 +4,10 @@ use native.Mathlib.Omega.{arith}
 use mathlib.Core.Path.{_∙_}
 use lib.ListN.{length}
 use borrow.Author.Needs.{needs}
-use Rattle.judging.proofs.ReadLaws.{told-job, told-no-job}
-use Rattle.judging.proofs.LinesLaws.{ReadTo, read-start, read-more, read-stop, read-all}
-use Rattle.judging.proofs.job_lines.read_lines.Statement.{statement}
-use Rattle.judging.proofs.job_lines.read_lines.Tie as tie
+use Rattle.claims.proofs.ReadLaws.{told-job, told-no-job}
+use Rattle.claims.proofs.LinesLaws.{ReadTo, read-start, read-more, read-stop, read-all}
+use Rattle.claims.proofs.job_lines.read_lines.Statement.{statement}
+use Rattle.claims.proofs.job_lines.read_lines.Tie as tie
 
 abbrev Inv-loop : tie.InvT-loop
 Inv-loop text at starts₀ ordered₀ place₀ k₀ starts ordered place k = ReadTo text at place k ordered starts

@@ -19,11 +19,11 @@ use Rattle.reading.specs.Frame.{frameAt, Inside}
 use Rattle.reading.proofs.Tests.{refuses-require}
 use Rattle.reading.proofs.Bytes.{frame-size, framed-inside}
 use Rattle.reading.proofs.One.{one-refused, one-read}
-use Rattle.judging.specs.declared.claim.Head.{Head}
-use Rattle.judging.specs.declared.claim.Head.the-variants.{Read, Broken}
-use Rattle.judging.specs.declared.claim.JobLine.{JobLine}
-use Rattle.judging.specs.declared.claim.JobLine.the-variants.{Starts, Broken as NoJob}
-use Rattle.judging.specs.Claim.{ReadsHead, ReadsJob}
+use Rattle.claims.specs.declared.claim.Head.{Head}
+use Rattle.claims.specs.declared.claim.Head.the-variants.{Read, Broken}
+use Rattle.claims.specs.declared.claim.JobLine.{JobLine}
+use Rattle.claims.specs.declared.claim.JobLine.the-variants.{Starts, Broken as NoJob}
+use Rattle.claims.specs.Claim.{ReadsHead, ReadsJob}
 
 -- no line: refused, whichever the number
 none-read : {A : Type 0} (frame : List ℕ → Outcome A) (text : List ℕ) → readLine text ≡ none → (k : ℕ) × (readOne frame text ≡ refuse k)

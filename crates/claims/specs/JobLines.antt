@@ -7,7 +7,7 @@ use lib.Dec.{ltb}
 use Rattle.model.specs.Common.{if_then_else_, count, pad, Outcome, refuse, accept}
 use Rattle.model.specs.Limits.{mostJobs}
 use Rattle.model.specs.Starts.{same}
-use Rattle.judging.specs.declared.job_lines.Lines.{Lines}
+use Rattle.claims.specs.declared.job_lines.Lines.{Lines}
 
 -- the start of line k, where there is room
 unfoldable pub stored : List ℕ → ℕ → ℕ → List ℕ

@@ -6,10 +6,10 @@ use lib.ListN.{length, drop}
 use Rattle.model.specs.Common.{refuse, accept}
 use Rattle.model.specs.Open.{readOne}
 use Rattle.model.specs.Judge.{claimHead, claimLine}
-use Rattle.judging.specs.declared.claim.Head.{Head}
-use Rattle.judging.specs.declared.claim.Head.the-variants.{Read, Broken}
-use Rattle.judging.specs.declared.claim.JobLine.{JobLine}
-use Rattle.judging.specs.declared.claim.JobLine.the-variants.{Starts, Broken as NoJob}
+use Rattle.claims.specs.declared.claim.Head.{Head}
+use Rattle.claims.specs.declared.claim.Head.the-variants.{Read, Broken}
+use Rattle.claims.specs.declared.claim.JobLine.{JobLine}
+use Rattle.claims.specs.declared.claim.JobLine.the-variants.{Starts, Broken as NoJob}
 
 -- the first line is read, up to a place of the text; or it is refused
 unfoldable pub ReadsHead : List ℕ → Head → Type 0
