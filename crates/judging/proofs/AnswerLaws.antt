@@ -28,11 +28,11 @@ use Rattle.model.proofs.StartsLaws.{same-eq}
 use Rattle.model.proofs.FileLaws.{open-read}
 use Rattle.model.proofs.OpenLaws.{open-format}
 use Rattle.model.proofs.JudgeLaws.{jobs-iff, starts-length}
-use Rattle.judging.specs.declared.job_lines.Lines.{Lines}
-use Rattle.judging.specs.declared.claim.Head.{Head}
-use Rattle.judging.specs.declared.claim.Head.the-variants.{Read, Broken}
-use Rattle.judging.specs.Claim.{ReadsHead}
-use Rattle.judging.specs.JobLines.{linesTold}
+use Rattle.claims.specs.declared.job_lines.Lines.{Lines}
+use Rattle.claims.specs.declared.claim.Head.{Head}
+use Rattle.claims.specs.declared.claim.Head.the-variants.{Read, Broken}
+use Rattle.claims.specs.Claim.{ReadsHead}
+use Rattle.claims.specs.JobLines.{linesTold}
 use Rattle.judging.proofs.PlanLaws.{valid-agree, latency-agree}
 
 -- ---- the lines

@@ -1,5 +1,3 @@
--- The laws of judging: a text read line by line, a plan tested by arrays, and the answers in turn.
-pub mod ReadLaws
-pub mod LinesLaws
+-- The laws of judging: a plan tested by arrays, and the answers in turn.
 pub mod PlanLaws
 pub mod AnswerLaws

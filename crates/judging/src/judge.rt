@@ -1,9 +1,9 @@
 // Judging: what the text claims beside the batch of the file, in the order of the refusals.
-use crate::claim::Head;
-use crate::claim::read_head;
-use crate::job_lines::names_jobs;
-use crate::job_lines::read_lines;
 use crate::plan::is_right;
+use claims::Head;
+use claims::names_jobs;
+use claims::read_head;
+use claims::read_lines;
 use model::Batch;
 use model::Judgement;
 use model::Opening;

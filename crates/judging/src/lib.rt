@@ -1,6 +1,4 @@
 // A plan text judged beside its batch file: the file's own refusals, and then 17, 18 and 19 (02, Q-1).
-mod claim;
-mod job_lines;
 mod judge;
 mod plan;
 

@@ -19,8 +19,8 @@ use Rattle.clashes.specs.List.{Tabled}
 use Rattle.clashes.proofs.LimitLaws.{tabled}
 use Rattle.weights.specs.declared.delays.Reading.{Reading}
 use Rattle.weights.specs.Delays.{DelaysSound, delaysPass, ReadsDelays}
-use Rattle.soundness.specs.Limits.{ticksPass, countsPass, limitsPass}
-use Rattle.soundness.proofs.LimitLaws.{few-jobs, some-jobs, few-delays}
+use Rattle.batch_limits.specs.Limits.{ticksPass, countsPass, limitsPass}
+use Rattle.batch_limits.proofs.LimitLaws.{few-jobs, some-jobs, few-delays}
 
 module _ (b : Batch) (x : Bool) (p : x ≡ limitsPass b) (e : not x ≡ false) where
   limits : ((countsPass b && soundEdition b) ≡ true) × (soundFurther b ≡ true)

@@ -10,7 +10,7 @@ use Rattle.model.specs.declared.Best.{Best}
 use Rattle.model.specs.declared.Best.the-variants.{Nothing, Latency}
 use Rattle.model.specs.Plan.{start}
 use Rattle.model.specs.Sound.{soundBest}
-use Rattle.soundness.specs.Limits.{startsPass}
+use Rattle.soundness.specs.Best.{startsPass}
 use Rattle.model.proofs.AllLaws.{allFrom, all-start}
 
 -- ---- starts

@@ -25,7 +25,7 @@ use Rattle.times.specs.Stays.{staysRead}
 use Rattle.times.specs.Ends.{earliestRead, latestRead}
 use Rattle.soundness.specs.declared.path.Route.{Route}
 use Rattle.soundness.specs.declared.Examined.{Examined}
-use Rattle.soundness.specs.Limits.{ticksPass, countsPass, limitsPass}
+use Rattle.batch_limits.specs.Limits.{ticksPass, countsPass, limitsPass}
 use Rattle.soundness.specs.Path.{Reads}
 use Rattle.soundness.specs.Examined.{stateSound, Examines}
 use Rattle.soundness.proofs.StateLaws.{path-read}

@@ -3,7 +3,7 @@ use model::Best;
 ghost use mathlib.Core.Path.{_≡_};
 ghost use Prim.Native.Nat.{_≤_};
 ghost use Rattle.model.specs.Sound.{soundBest};
-ghost use Rattle.soundness.specs.Limits.{startsPass};
+ghost use Rattle.soundness.specs.Best.{startsPass};
 
 // The first n starts are at most 43,000.
 fn starts_ok(n: usize, starts: [u16; 24]) -> bool

@@ -1,8 +1,8 @@
 // Whether a record from anywhere is sound, and in the same pass what a run works on: the clash list, the delays, the stays and the ends as
 // arrays, and the path's turns as numbers. Nothing past a limit is read before the limit is known to hold.
-use crate::batch::limits_pass;
 use crate::path::read_path;
 use crate::state::state_ok;
+use batch_limits::limits_pass;
 use clashes::Clashes;
 use clashes::list_clashes;
 use model::Search;
@@ -16,13 +16,9 @@ ghost use mathlib.Core.Bool.{false};
 ghost use Rattle.model.specs.Sound.{sound};
 ghost use Rattle.soundness.specs.Examined.{Examines};
 
-mod batch;
 mod best;
-mod further;
 mod path;
-mod rest;
 mod state;
-mod window;
 
 // What a run works on, if the record is sound. Otherwise `sound` is false, and the rest means nothing. Turn k is 2 * clash + side, for k
 // below depth.

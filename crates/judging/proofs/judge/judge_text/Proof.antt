@@ -1,6 +1,6 @@
 -- `judge::judge_text` asks 17 of the first line and of the others, then 18, then 19.
 use borrow.Author.Needs.{needs}
-use Rattle.judging.proofs.ReadLaws.{told-place}
+use Rattle.claims.proofs.ReadLaws.{told-place}
 use Rattle.judging.proofs.AnswerLaws.{no-head, no-lines, no-jobs, no-plan, right-plan}
 use Rattle.judging.proofs.judge.judge_text.Statement.{statement}
 use Rattle.judging.proofs.judge.judge_text.Tie as tie

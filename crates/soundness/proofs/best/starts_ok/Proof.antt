@@ -2,7 +2,7 @@
 use Prim.Native.Nat.{_-_}
 use mathlib.Core.Path.{_≡_}
 use borrow.Author.Needs.{needs}
-use Rattle.soundness.specs.Limits.{startsPass}
+use Rattle.soundness.specs.Best.{startsPass}
 use Rattle.model.proofs.AllLaws.{allFrom, all-passed, all-failed, all-ended}
 use Rattle.soundness.proofs.BestLaws.{startTest, starts-start, start-low, start-high}
 use Rattle.soundness.proofs.best.starts_ok.Statement.{statement}

@@ -1,3 +1,0 @@
--- What the contracts of judging cite: the answers of the functions that read a plan text.
-pub mod Claim
-pub mod JobLines
