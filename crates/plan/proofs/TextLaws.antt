@@ -34,8 +34,9 @@ use Rattle.model.proofs.Answer as A
 use Rattle.model.proofs.OutcomeLaws.{refused, accept-eq}
 use Rattle.lines.specs.Write.{overwritten}
 use Rattle.lines.proofs.Puts.{put-front, put-digits, put-line, line-length}
-use Rattle.writing.specs.Lines.{headLine, startLine, startLines, foundLines, noPlanLine}
-use Rattle.writing.proofs.Lengths.{no-plan-length}
+use Rattle.frame_put.specs.Lines.{headLine, startLine, noPlanLine}
+use Rattle.frame_put.proofs.Lengths.{no-plan-length}
+use Rattle.writing.specs.Plan.{startLines, foundLines}
 use Rattle.writing.proofs.Texts.{found-length}
 use Rattle.writing.proofs.Refusals.{sound-bounded, plan-unsound, plan-open, plan-ended}
 

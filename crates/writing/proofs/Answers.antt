@@ -13,7 +13,8 @@ use Rattle.model.specs.Common.{Outcome, refuse, accept, _>>=_, require}
 use Rattle.model.specs.Text.{planLines, fitting, writtenAs, written}
 use Rattle.lines.specs.Write.{overwritten}
 use Rattle.lines.proofs.Puts.{put-front}
-use Rattle.writing.specs.Lines.{headLine, startLine, startLines, foundLines, noPlanLine}
+use Rattle.frame_put.specs.Lines.{headLine, startLine, noPlanLine}
+use Rattle.writing.specs.Plan.{startLines, foundLines}
 
 -- by the test of refusal 16
 answer : List ℕ → List ℕ → Bool → Written × List ℕ

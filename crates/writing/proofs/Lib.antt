@@ -1,7 +1,4 @@
--- Laws for the proofs of the functions: the weight, what a loop puts, the lengths and texts of the lines, and what the tests decide.
-pub mod Weight
-pub mod Pieces
-pub mod Lengths
+-- Laws for the proofs of the functions: the texts of the lines, what a writer answers, and what the tests decide.
 pub mod Texts
 pub mod Answers
 pub mod Refusals

@@ -1,6 +1,3 @@
--- What the contracts cite: the lines of the plan text, the further lines, and the bounds that the batch text needs.
-pub mod Lines
-pub mod Lined
-pub mod Windows
-pub mod Rests
+-- What the contracts cite: the plan text where there is a plan, and the bounds that the batch text needs.
+pub mod Plan
 pub mod Bounded

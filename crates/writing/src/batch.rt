@@ -4,23 +4,21 @@ ghost use mathlib.Core.Path.{_≡_};
 ghost use Prim.Native.Nat.{_+_, _*_, _≤_};
 ghost use lib.ListN.{length};
 ghost use Rattle.model.specs.Common.{joined};
-ghost use Rattle.model.specs.Limits.{mostTicks, mostDelays};
+ghost use Rattle.model.specs.Limits.{mostDelays};
 ghost use Rattle.model.specs.Batch.{delaysOf};
-ghost use Rattle.model.specs.Line.{digitsOf, two};
-ghost use Rattle.model.specs.Format.{masksOf, jobLine, jobsOf, delayLine, batchFile};
+ghost use Rattle.model.specs.Format.{jobLine, jobsOf, delayLine, batchFile};
 ghost use Rattle.lines.specs.Write.{overwritten};
 ghost use Rattle.writing.specs.Bounded.{Bounded};
-use crate::frame::put_delay;
-use crate::frame::put_header;
-use crate::frame::put_pair;
-use crate::rests::put_rests;
-use crate::rests::rests_length;
-use crate::windows::put_windows;
-use crate::windows::windows_length;
 use delay_array::array_columns;
 use delay_list::delay_at;
+use frame_put::put_delay;
+use frame_put::put_header;
+use frame_put::put_job;
+use further_put::put_rests;
+use further_put::put_windows;
+use further_put::rests_length;
+use further_put::windows_length;
 use model::Batch;
-use model::Job;
 use model::wide;
 use model::wide16;
 
@@ -67,31 +65,6 @@ fn put_jobs(buffer: &mut [u8], at: usize, batch: Batch) -> usize
         let job = batch.jobs[i];
         next = put_job(buffer, next, job);
         i = i + 1;
-    }
-    next
-}
-
-// One job line.
-fn put_job(buffer: &mut [u8], at: usize, job: Job) -> usize
-    requires { ⌜ (job .ticks ≤ mostTicks) × (at + (4 * job .ticks + 5) ≤ length (now buffer)) ⌝ }
-    ensures { λ r. ⌜ (r ≡ at + (4 * job .ticks + 5)) × (now (buffer .exit) ≡ overwritten (now (buffer .entry)) at (jobLine job)) ⌝ }
-{
-    let masks = put_pair(buffer, at, 0xA1, job.ticks as u8);
-    let end = put_masks(buffer, masks, job);
-    lines::put_end(buffer, end)
-}
-
-// A job's p masks.
-fn put_masks(buffer: &mut [u8], at: usize, job: Job) -> usize
-    requires { ⌜ (job .ticks ≤ mostTicks) × (at + 4 * job .ticks ≤ length (now buffer)) ⌝ }
-    ensures { λ r. ⌜ (r ≡ at + 4 * job .ticks) × (now (buffer .exit) ≡ overwritten (now (buffer .entry)) at (digitsOf (joined two (masksOf job)))) ⌝ }
-{
-    let ticks = wide16(job.ticks);
-    let mut next = at;
-    let mut a: usize = 0;
-    while a < ticks {
-        next = lines::put_two(buffer, next, job.masks[a]);
-        a = a + 1;
     }
     next
 }

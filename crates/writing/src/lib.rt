@@ -2,15 +2,8 @@
 // the text does not fit.
 mod batch;
 mod batch_text;
-mod frame;
-mod lined;
-mod number;
 mod plan;
 mod plan_text;
-mod rest;
-mod rests;
-mod window;
-mod windows;
 
 pub use batch_text::write_batch;
 pub use plan_text::write_plan;

@@ -4,9 +4,9 @@ ghost use Prim.Native.Nat.{_+_, _*_, _≤_};
 ghost use lib.ListN.{length};
 ghost use Rattle.model.specs.Limits.{mostJobs};
 ghost use Rattle.lines.specs.Write.{overwritten};
-ghost use Rattle.writing.specs.Lines.{foundLines, startLines};
-use crate::frame::put_head;
-use crate::frame::put_start;
+ghost use Rattle.writing.specs.Plan.{foundLines, startLines};
+use frame_put::put_head;
+use frame_put::put_start;
 use model::wide;
 
 // The whole text at the buffer's front.

@@ -7,7 +7,7 @@ use lib.ListN.{length}
 use Rattle.model.specs.Common.{count, joined}
 use Rattle.model.specs.Window.{windowText, windowLines}
 use Rattle.model.specs.Rest.{restText, restLines}
-use Rattle.writing.proofs.Pieces.{pieces, pieces-length}
+use Rattle.frame_put.proofs.Pieces.{pieces, pieces-length}
 use Rattle.writing.proofs.Texts.{jobPiece, jobs-text, read-length, batch-length}
 use Rattle.writing.proofs.batch.batch_length.Statement.{statement}
 use Rattle.writing.proofs.batch.batch_length.Tie as tie

@@ -10,7 +10,7 @@ use Rattle.model.specs.Batch.{delaysOf}
 use Rattle.model.specs.Window.{windowText, windowLines}
 use Rattle.model.specs.Rest.{restText, restLines}
 use Rattle.model.specs.Format.{headerLine, jobLine, jobsOf, delayLine, furtherOf, furtherText, batchFile}
-use Rattle.writing.proofs.Lengths.{header-length}
+use Rattle.frame_put.proofs.Lengths.{header-length}
 use Rattle.writing.proofs.Texts.{delays-length, batch-length, front-none, front-more}
 use Rattle.writing.proofs.batch.put_batch.Statement.{statement}
 use Rattle.writing.proofs.batch.put_batch.Tie as tie

@@ -7,8 +7,8 @@ use Rattle.model.specs.Common.{joined}
 use Rattle.model.specs.Format.{delayLine}
 use Rattle.delay_list.specs.Columns.{delayAt}
 use Rattle.delay_list.proofs.ColumnLaws.{batch-delays}
-use Rattle.writing.proofs.Pieces.{joined-pieces, Filled, filled-none, filled-more, filled-all}
-use Rattle.writing.proofs.Lengths.{delay-length}
+use Rattle.frame_put.proofs.Pieces.{joined-pieces, Filled, filled-none, filled-more, filled-all}
+use Rattle.frame_put.proofs.Lengths.{delay-length}
 use Rattle.writing.proofs.Texts.{delays-size}
 use Rattle.writing.proofs.batch.put_delays.Statement.{statement}
 use Rattle.writing.proofs.batch.put_delays.Tie as tie

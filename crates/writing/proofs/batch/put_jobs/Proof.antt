@@ -5,7 +5,7 @@ use native.Mathlib.Omega.{arith}
 use borrow.Author.Needs.{needs}
 use lib.ListN.{length}
 use Rattle.lines.specs.Write.{overwritten}
-use Rattle.writing.proofs.Pieces.{Filled, filled-none, filled-room, filled-more, filled-all}
+use Rattle.frame_put.proofs.Pieces.{Filled, filled-none, filled-room, filled-more, filled-all}
 use Rattle.writing.proofs.Texts.{jobPiece, jobs-text, read-line, read-ticks, read-length}
 use Rattle.writing.proofs.batch.put_jobs.Statement.{statement}
 use Rattle.writing.proofs.batch.put_jobs.Tie as tie

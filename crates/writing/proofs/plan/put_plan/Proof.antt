@@ -2,8 +2,8 @@
 use native.Mathlib.Omega.{arith}
 use borrow.Author.Needs.{needs}
 use Rattle.lines.proofs.Puts.{put-then}
-use Rattle.writing.specs.Lines.{foundLines}
-use Rattle.writing.proofs.Lengths.{head-length}
+use Rattle.frame_put.proofs.Lengths.{head-length}
+use Rattle.writing.specs.Plan.{foundLines}
 use Rattle.writing.proofs.plan.put_plan.Statement.{statement}
 use Rattle.writing.proofs.plan.put_plan.Tie as tie
 

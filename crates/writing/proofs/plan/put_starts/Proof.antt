@@ -5,8 +5,8 @@ use native.Mathlib.Omega.{arith}
 use borrow.Author.Needs.{needs}
 use lib.ListN.{length}
 use Rattle.model.specs.Plan.{start}
-use Rattle.writing.proofs.Pieces.{Filled, filled-none, filled-more, filled-all}
-use Rattle.writing.proofs.Lengths.{start-length}
+use Rattle.frame_put.proofs.Pieces.{Filled, filled-none, filled-more, filled-all}
+use Rattle.frame_put.proofs.Lengths.{start-length}
 use Rattle.writing.proofs.Texts.{startPiece, starts-text, starts-size}
 use Rattle.writing.proofs.plan.put_starts.Statement.{statement}
 use Rattle.writing.proofs.plan.put_starts.Tie as tie

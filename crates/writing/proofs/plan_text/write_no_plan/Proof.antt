@@ -1,7 +1,7 @@
 -- `write_no_plan` refuses a text longer than the buffer, and puts any other.
 use native.Mathlib.Omega.{arith}
 use borrow.Author.Needs.{needs}
-use Rattle.writing.proofs.Lengths.{no-plan-length}
+use Rattle.frame_put.proofs.Lengths.{no-plan-length}
 use Rattle.writing.proofs.Answers.{text-fits, text-long}
 use Rattle.writing.proofs.plan_text.write_no_plan.Statement.{statement}
 use Rattle.writing.proofs.plan_text.write_no_plan.Tie as tie
