@@ -1,19 +1,22 @@
 -- Job i with the jobs after it, as the code reads them from the batch; and the whole list.
 use Prim.Native.Nat.{ℕ, suc, _+_, _-_, _*_, _≤_, _<_}
-use mathlib.Core.Path.{_≡_, ap, _∙_}
+use mathlib.Core.Path.{_≡_, refl, ap, _∙_}
+use mathlib.Core.Bool.{Bool, true, false}
 use mathlib.Core.List.{List, [], map}
 use native.Mathlib.Omega.{arith}
 use lib.ListN.{length, getD, replicate, length-map}
+use lib.Dec.{ltb}
+use borrow.Author.Tests.{ltb-true, ltb-false}
 use Rattle.model.specs.declared.Job.{Job}
 use Rattle.model.specs.declared.Batch.{Batch}
 use Rattle.model.specs.Common.{count, joined}
 use Rattle.model.specs.Batch.{jobOf, blankJob, ticks, restOf}
 use Rattle.model.specs.Clash.{Clash, clashesOf, clashes}
-use Rattle.model.proofs.SeqLaws.{getD-same}
+use Rattle.model.proofs.SeqLaws.{getD-same, count-end}
 use Rattle.clashes.specs.declared.Clashes.{Clashes}
 use Rattle.clashes.specs.Code.{codeOf}
 use Rattle.tables.specs.Rest.{Resting, Longest, Widens}
-use Rattle.clashes.specs.List.{listing, listOf, pairCodes, rowCodes, Grown, Tabled}
+use Rattle.clashes.specs.List.{listing, listOf, addAll, pairCodes, rowCodes, Grown, Tabled}
 use Rattle.clashes.proofs.StoreLaws.{full, add-empty}
 use Rattle.clashes.proofs.PairLaws.{pair-codes}
 use Rattle.clashes.proofs.GrowLaws.{codesFrom, Growing, grow-more, grow-end}
@@ -66,10 +69,25 @@ pub list-more : (b : Batch) (from l m : Clashes) (i : ℕ) → Growing (rowOf b)
 unfolding rowCodes rowOf
 list-more b from l m i g h s = grow-more (rowOf b) 1080 0 (b .n) from l m i g h s
 
--- after the last turn the list is complete
-pub list-end : (b : Batch) (l : Clashes) (i : ℕ) → Growing (rowOf b) 1080 0 (b .n) (listing 0 (replicate 1024 0)) l i → b .n ≤ i → l ≡ listOf b
-unfolding listOf full clashes codesFrom rowOf
-list-end b l i g h =
-    let e : b .n - 0 ≡ b .n = omega arith in
-    (rw e at (grow-end (rowOf b) 1080 0 (b .n) (listing 0 (replicate 1024 0)) l i g h)) ∙ add-empty (map codeOf (clashes b))
-    ∙ ap (λ (d : ℕ). listing d (full (map codeOf (clashes b)) .codes)) (length-map (clashes b) codeOf)
+-- the last job has none after it, and adds nothing
+row-none : (b : Batch) (l : Clashes) (i : ℕ) → b .n ≤ suc i → Grown l l (rowCodes b i) 1080
+unfolding rowCodes addAll joined
+row-none b l i h = record { all = rw (count-end (suc i) (b .n) h); few = omega arith }
+
+-- the whole list, from an array without codes
+module _ (b : Batch) (none : List ℕ) (blank : none ≡ replicate 1024 0) (l : Clashes) where
+  -- after a turn for each job it is complete
+  list-whole : (i : ℕ) → Growing (rowOf b) 1080 0 (b .n) (listing 0 none) l i → b .n ≤ i → l ≡ listOf b
+  unfolding listOf full clashes codesFrom rowOf
+  list-whole i g h =
+      let e : b .n - 0 ≡ b .n = omega arith in
+      (rw e at (grow-end (rowOf b) 1080 0 (b .n) (listing 0 none) l i g h)) ∙ ap (λ (codes : List ℕ). addAll (listing 0 codes) (map codeOf (clashes b))) blank
+      ∙ add-empty (map codeOf (clashes b)) ∙ ap (λ (d : ℕ). listing d (full (map codeOf (clashes b)) .codes)) (length-map (clashes b) codeOf)
+
+  -- and so it is before the last job's
+  pub list-end : (i : ℕ) → Growing (rowOf b) 1080 0 (b .n) (listing 0 none) l i → b .n ≤ i + 1 → l ≡ listOf b
+  list-end i g h = go (ltb i (b .n)) refl
+    where
+      go : (t : Bool) → ltb i (b .n) ≡ t → l ≡ listOf b
+      go true e = list-whole (i + 1) (list-more b _ l l i g (ltb-true i (b .n) e) (row-none b l i (omega arith))) h
+      go false e = list-whole i g (ltb-false i (b .n) e)

@@ -1,6 +1,5 @@
 // The clash list of a batch: by i, then j, then d, all rising, each once. The loops over i and j stand in one function, since handing the batch on
 // would copy it, and the distances of a pair in one of their own. Job i's table is widened by the rests, once for all jobs after it.
-use crate::Clashes;
 use model::Batch;
 use model::Job;
 use model::wide;
@@ -11,6 +10,7 @@ use tables::tables_meet;
 use tables::widened;
 ghost use mathlib.Core.Path.{_≡_};
 ghost use Prim.Native.Nat.{_*_, _≤_, _<_};
+ghost use lib.ListN.{replicate};
 ghost use Rattle.clashes.specs.List.{listing, put, pairCodes, listOf, Grown, Tabled};
 
 // Counts a code, and stores it where there is room.
@@ -53,19 +53,19 @@ fn add_pair(
     at
 }
 
-// The clashes of a batch. All are counted, and the first 1,024 stored.
-pub fn list_clashes(batch: Batch) -> Clashes
+// The clashes of a batch. All are counted, and the first 1,024 stored in the caller's array, so that no list is copied.
+pub fn list_clashes(batch: Batch, codes: &mut [u16; 1024]) -> usize
     requires { ⌜ Tabled batch ⌝ }
-    ensures { λ r. ⌜ r ≡ listOf batch ⌝ }
+    requires { ⌜ now codes ≡ replicate 1024 0 ⌝ }
+    ensures { λ r. ⌜ listing r (now (codes .exit)) ≡ listOf batch ⌝ }
 {
     let n = wide(batch.n);
     let rests = batch.rests;
     let longest = longest_rest(&rests);
     let close = close_masks(&rests, longest);
-    let mut codes = [0u16; 1024];
     let mut count: usize = 0;
     let mut i: usize = 0;
-    while i < n {
+    while i + 1 < n {
         let first = batch.jobs[i];
         let places = widened(first, &close, longest);
         let end = 7 + wide16(first.ticks) + longest;
@@ -73,7 +73,7 @@ pub fn list_clashes(batch: Batch) -> Clashes
         while j < n {
             let second = batch.jobs[j];
             count = add_pair(
-                &mut codes,
+                codes,
                 count,
                 7 - longest,
                 end,
@@ -85,8 +85,5 @@ pub fn list_clashes(batch: Batch) -> Clashes
         }
         i = i + 1;
     }
-    Clashes {
-        count: count,
-        codes: codes,
-    }
+    count
 }

@@ -82,9 +82,9 @@ fn meets_clash(batch: Batch, starts: &[u16; 24]) -> bool
     requires { ⌜ Within batch × (fewClashes batch ≡ true) ⌝ }
     ensures { λ r. ⌜ r ≡ isSome (firstMet (clashes batch) (now (starts .entry)) 0) ⌝ }
 {
-    let list = list_clashes(batch);
-    let codes = list.codes;
-    let met = first_met(&codes, 0, list.count, starts);
+    let mut codes = [0u16; 1024];
+    let count = list_clashes(batch, &mut codes);
+    let met = first_met(&codes, 0, count, starts);
     match met {
         Met::Clash(_) => true,
         Met::Nothing => false,

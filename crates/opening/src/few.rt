@@ -10,7 +10,7 @@ pub fn few_clashes(batch: Batch) -> bool
     requires { ⌜ Within batch ⌝ }
     ensures { λ r. ⌜ r ≡ fewClashes batch ⌝ }
 {
-    let list = list_clashes(batch);
-    let count = list.count;
+    let mut codes = [0u16; 1024];
+    let count = list_clashes(batch, &mut codes);
     count <= 1024
 }

@@ -69,8 +69,8 @@ pub fn examine(search: Search) -> Examined
         return unsound();
     }
     let delays = read.delays;
-    let clashes = list_clashes(batch);
-    let count = clashes.count;
+    let mut codes = [0u16; 1024];
+    let count = list_clashes(batch, &mut codes);
     if 1024 < count {
         return unsound();
     }
@@ -85,7 +85,7 @@ pub fn examine(search: Search) -> Examined
     let latest = ends.latest;
     Examined {
         sound: state_ok(search, route),
-        clashes: clashes,
+        clashes: Clashes { count, codes },
         delays: delays,
         stays: stays_of(batch),
         earliest,

@@ -26,7 +26,7 @@ returns-2 : tie.Need-returns-2
 returns-2 c = past-delays _ _ (c .unsound2 .ensures) _ (c .before .before .before .read-delays .ensures .told) (c .before .if2 .taken)
 
 list-clashes-requires : tie.Need-list-clashes-requires
-list-clashes-requires c κs = counts-tabled _ _ (c .before .before .before .before .before .limits-pass .ensures) (c .before .before .before .before .if1 .left)
+list-clashes-requires c κs = (counts-tabled _ _ (c .before .before .before .before .before .before .limits-pass .ensures) (c .before .before .before .before .before .if1 .left), refl)
 
 unsound-requires-3 : tie.Need-unsound-requires-3
 unsound-requires-3 c κs = search needs
@@ -35,12 +35,12 @@ returns-3 : tie.Need-returns-3
 returns-3 c = many-clashes _ _ (c .unsound3 .ensures) _ (c .before .before .list-clashes .ensures) (c .before .if3 .taken)
 
 ends-of-requires : tie.Need-ends-of-requires
-ends-of-requires c κs = let passed = c .before .before .before .before .before .before in counts-jobs _ _ (passed .before .limits-pass .ensures) (passed .if1 .left)
+ends-of-requires c κs = let passed = c .before .before .before .before .before .before .before in counts-jobs _ _ (passed .before .limits-pass .ensures) (passed .if1 .left)
 
 read-delays-met-requires : tie.Need-read-delays-met-requires
 read-delays-met-requires c κs =
-    let ok = c .before .before .before .before .if2 .left in
-    let read = c .before .before .before .before .before .before in (
+    let ok = c .before .before .before .before .before .if2 .left in
+    let read = c .before .before .before .before .before .before .before in (
       (passed-delays _ _ (read .before .before .limits-pass .ensures) (read .before .if1 .left) _ (read .read-delays .ensures) ok, limits-soon _ _ (read .before .before .limits-pass .ensures) (read .before .if1 .left)),
       (read .read-delays .ensures .ready (passes refl ok), c .ends-of .ensures),
     )
@@ -58,11 +58,11 @@ state-ok-requires : tie.Need-state-ok-requires
 state-ok-requires c κs =
     let listed = c .before .before .before .before .before .before .before .before .before in (
       counted _ _ _ _ (listed .list-clashes .ensures) (c .before .before .before .read-path .ensures),
-      counts-jobs _ _ (listed .before .before .before .before .before .before .limits-pass .ensures) (listed .before .before .before .before .before .if1 .left),
+      counts-jobs _ _ (listed .before .before .before .before .before .before .before .limits-pass .ensures) (listed .before .before .before .before .before .before .if1 .left),
     )
 
 stays-of-requires : tie.Need-stays-of-requires
-stays-of-requires c κs = let passed = c .before .before .before .before .before .before .before .before .before .before .before .before .before .before .before in counts-tabled _ _ (passed .before .limits-pass .ensures) (passed .if1 .left)
+stays-of-requires c κs = let passed = c .before .before .before .before .before .before .before .before .before .before .before .before .before .before .before .before in counts-tabled _ _ (passed .before .limits-pass .ensures) (passed .if1 .left)
 
 returns-5 : tie.Need-returns-5
 returns-5 c =
@@ -70,7 +70,7 @@ returns-5 c =
     let met = path .before .before in
     let ends = met .before .before in
     let few = ends .before in
-    let read = few .before .before .before in
+    let read = few .before .before .before .before in
     let passed = read .before .before .before in
     examined _ _ _ _ _ _ _ _ _ _ (passed .before .limits-pass .ensures) (passed .if1 .left) (read .before .before .read-delays .ensures) (read .if2 .left)
     (few .before .list-clashes .ensures) (few .if3 .left) (met .before .read-delays-met .ensures) (met .if4 .left) (path .read-path .ensures) (c .before .state-ok .ensures)
