@@ -1,31 +1,8 @@
 //! Rests: stations of edition 02 that two jobs hold only in ticks far enough apart decide plans, are written back, and are judged.
 mod common;
 
-use common::{repository, Batch, Random};
-use planner::{judge, Answer, Refusal, Rest, Search};
-
-/// What a whole search comes to: its starts and latency, or no plan; or its refusal.
-fn planned(file: &[u8]) -> Result<Option<(u16, Vec<u16>)>, Refusal> {
-    let mut search = Search::open(file)?;
-    while let Answer::Spent { .. } = search.run(50)? {}
-    assert_eq!(search.batch_text().unwrap(), file, "the batch text is the file");
-    Ok(search.plan().map(|plan| (plan.latency(), plan.starts().to_vec())))
-}
-
-/// The smallest latency of all valid plans with starts up to `most`; none where there is none.
-fn searched(batch: &Batch, most: u16) -> Option<u16> {
-    let n = batch.jobs.len();
-    let (mut starts, mut best) = (vec![0u16; n], None);
-    loop {
-        let latency = batch.latency(&starts) as u16;
-        if best.map_or(true, |best| latency < best) && batch.fault(&starts, latency).is_none() {
-            best = Some(latency);
-        }
-        let Some(job) = (0..n).find(|job| starts[*job] < most) else { return best };
-        starts[..job].fill(0);
-        starts[job] += 1;
-    }
-}
+use common::{planned, repository, Batch, Random};
+use planner::{judge, Refusal, Rest, Search};
 
 /// The example, with every rest of its laminator and without one.
 #[test]
@@ -107,12 +84,12 @@ fn random_rests() {
         match (&with, &without) {
             (Ok(Some((latency, starts))), Ok(Some((shorter, others)))) => {
                 assert_eq!(batch.fault(starts, *latency), None);
-                assert!(*latency > 30 || searched(&batch, *latency) == Some(*latency), "{batch:?}");
+                assert!(*latency > 30 || batch.shortest(*latency) == Some(*latency), "{batch:?}");
                 (longer, alike) = (longer + u32::from(latency > shorter), alike + u32::from(starts == others));
                 assert!(latency >= shorter);
             }
             (Ok(None), _) => {
-                assert_eq!(searched(&batch, 20), None, "{batch:?}");
+                assert_eq!(batch.shortest(20), None, "{batch:?}");
                 none += u32::from(matches!(without, Ok(Some(_))));
             }
             (Err(Refusal::Delays), Err(Refusal::Delays)) => refused += 1,

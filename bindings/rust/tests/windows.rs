@@ -1,34 +1,11 @@
 //! Windows: earliest and latest starts of edition 02 decide plans, are written back, and are judged.
 mod common;
 
-use common::{repository, Batch, Random};
-use planner::{judge, Answer, Refusal, Search};
+use common::{planned, repository, Batch, Random};
+use planner::{judge, Refusal, Search};
 
-/// What a whole search comes to: its starts and latency, or no plan; or its refusal.
-fn planned(file: &[u8]) -> Result<Option<(u16, Vec<u16>)>, Refusal> {
-    let mut search = Search::open(file)?;
-    while let Answer::Spent { .. } = search.run(50)? {}
-    assert_eq!(search.batch_text().unwrap(), file, "the batch text is the file");
-    Ok(search.plan().map(|plan| (plan.latency(), plan.starts().to_vec())))
-}
-
-/// Plans with starts below this are looked at one by one.
-const BOUND: u16 = 26;
-
-/// The smallest latency of all such plans that are valid; none where there is none.
-fn searched(batch: &Batch) -> Option<u16> {
-    let n = batch.jobs.len();
-    let (mut starts, mut best) = (vec![0u16; n], None);
-    loop {
-        let latency = batch.latency(&starts) as u16;
-        if best.map_or(true, |best| latency < best) && batch.fault(&starts, latency).is_none() {
-            best = Some(latency);
-        }
-        let Some(job) = (0..n).find(|job| starts[*job] + 1 < BOUND) else { return best };
-        starts[..job].fill(0);
-        starts[job] += 1;
-    }
-}
+/// Plans with starts up to this are looked at one by one.
+const MOST: u16 = 25;
 
 /// The example, its windows one by one left out, and none of them: the starts are others each time.
 #[test]
@@ -82,16 +59,16 @@ fn random_windows() {
         match (&with, &without) {
             (Ok(Some((latency, starts))), Ok(Some((shorter, others)))) => {
                 assert_eq!(batch.fault(starts, *latency), None);
-                assert!(*latency >= BOUND || searched(&batch) == Some(*latency), "{batch:?}");
+                assert!(*latency > MOST || batch.shortest(MOST) == Some(*latency), "{batch:?}");
                 (longer, alike) = (longer + u32::from(latency > shorter), alike + u32::from(starts == others));
                 assert!(latency >= shorter);
             }
             (Ok(None), _) => {
-                assert_eq!(searched(&batch), None, "{batch:?}");
+                assert_eq!(batch.shortest(MOST), None, "{batch:?}");
                 none += u32::from(matches!(without, Ok(Some(_))));
             }
             (Err(Refusal::Delays), _) => {
-                assert_eq!(searched(&batch), None, "{batch:?}");
+                assert_eq!(batch.shortest(MOST), None, "{batch:?}");
                 refused += u32::from(without.is_ok());
             }
             other => panic!("{other:?} for {batch:?}"),

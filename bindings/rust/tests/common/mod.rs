@@ -1,5 +1,6 @@
 //! What the tests share: a batch in plain numbers with its file, a check of plans tick by tick, and random batches from a fixed seed.
 #![allow(dead_code)]
+use planner::{Answer, Refusal, Search};
 use std::fs;
 use std::path::PathBuf;
 
@@ -16,6 +17,14 @@ pub fn batch_files(folder: &str) -> Vec<(String, Vec<u8>)> {
         batches.map(|path| (path.file_name().unwrap().to_string_lossy().into_owned(), fs::read(&path).unwrap())).collect();
     files.sort();
     files
+}
+
+/// What a whole search comes to: its starts and latency, or no plan; or its refusal.
+pub fn planned(file: &[u8]) -> Result<Option<(u16, Vec<u16>)>, Refusal> {
+    let mut search = Search::open(file)?;
+    while let Answer::Spent { .. } = search.run(50)? {}
+    assert_eq!(search.batch_text().unwrap(), file, "the batch text is the file");
+    Ok(search.plan().map(|plan| (plan.latency(), plan.starts().to_vec())))
 }
 
 /// Jobs as lists of masks, delays as (from, to, weight), windows as (job, earliest, latest), rests as (station, ticks). Windows are none in edition
@@ -121,6 +130,21 @@ impl Batch {
         }
         let right = self.latency(starts);
         (right != usize::from(latency)).then(|| format!("the latency is {right}, not {latency}"))
+    }
+
+    /// The smallest latency of all valid plans with starts up to `most`; none where there is none.
+    pub fn shortest(&self, most: u16) -> Option<u16> {
+        let n = self.jobs.len();
+        let (mut starts, mut best) = (vec![0u16; n], None);
+        loop {
+            let latency = self.latency(&starts) as u16;
+            if best.map_or(true, |best| latency < best) && self.fault(&starts, latency).is_none() {
+                best = Some(latency);
+            }
+            let Some(job) = (0..n).find(|job| starts[*job] < most) else { return best };
+            starts[..job].fill(0);
+            starts[job] += 1;
+        }
     }
 }
 
