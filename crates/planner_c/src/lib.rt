@@ -64,7 +64,7 @@ pub extern "C" fn planner_write_batch(state: &Record, buffer: &mut [u8]) -> Text
     batch_text(*state, buffer)
 }
 
-// Judges a plan text beside its batch file: 0 where it passes, or the refusal, 1 to 10, 20, or 17 to 19.
+// Judges a plan text beside its batch file: 0 where it passes, or the refusal, 1 to 10, 20, 21, or 17 to 19.
 #[no_mangle]
 pub extern "C" fn planner_judge(file: &[u8], text: &[u8]) -> u8
     ensures { λ r. ⌜ r ≡ judgedNumber (now (file .entry)) (now (text .entry)) ⌝ }
