@@ -6,7 +6,5 @@ pub mod PairLaws
 pub mod GrowLaws
 pub mod RowLaws
 pub mod FirstLaws
-pub mod PairedLaws
-pub mod PassedLaws
 pub mod LimitLaws
 pub mod ListedLaws

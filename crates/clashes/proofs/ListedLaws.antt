@@ -17,8 +17,7 @@ use Rattle.model.proofs.ClashLaws.{Listed, clash-listed}
 use Rattle.clashes.specs.declared.Clashes.{Clashes}
 use Rattle.clashes.specs.Code.{codeOf, clashOf}
 use Rattle.clashes.specs.List.{Tabled, listOf}
-use Rattle.clashes.specs.First.{Known, clashesIn, metOf, firstCode}
-use Rattle.clashes.specs.Pairs.{Near}
+use Rattle.clashes.specs.First.{Known, Near, clashesIn, metOf, firstCode}
 use Rattle.clashes.proofs.CodeLaws.{Ranged, listed-ranged, code-back, code-named, code-near}
 use Rattle.clashes.proofs.FirstLaws.{first-agree}
 

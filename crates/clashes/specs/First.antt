@@ -23,6 +23,10 @@ pub record Named (code : ℕ) : Type 0 where
 pub record Known (codes : List ℕ) (n : ℕ) : Type 0 where
   pub each : (k : ℕ) → k < n → Named (getD codes k 0)
 
+-- d + 22 is at most 44 for each of the first n codes
+pub record Near (codes : List ℕ) (n : ℕ) : Type 0 where
+  pub each : (c : ℕ) → c < n → getD codes c 0 % 64 < 45
+
 -- the starts meet the clash of none of the first n codes
 pub record Unmet (codes ts : List ℕ) (n : ℕ) : Type 0 where
   pub each : (k : ℕ) → k < n → met ts (clashOf (getD codes k 0)) ≡ false

@@ -1,5 +1,4 @@
--- What the contracts of the clash list say. List, First and Pairs have what callers see; Code has the codes.
+-- What the contracts of the clash list say. List and First have what callers see; Code has the codes.
 pub mod Code
 pub mod List
 pub mod First
-pub mod Pairs

@@ -2,12 +2,9 @@
 // Callers list the clashes of a batch once, and ask for the first that is met as often as they have starts.
 mod first;
 mod list;
-mod pairs;
 
 pub use first::first_met;
 pub use list::list_clashes;
-pub use pairs::find_pairs;
-pub use pairs::unmet;
 
 // The clashes of a batch: how many there are, and the first 1,024 as codes i * 2048 + j * 64 + (d + 22). Places past them are 0.
 pub struct Clashes {

@@ -3,13 +3,12 @@ use Prim.Native.Nat.{ℕ, _+_, _/_, _≤_, _<_}
 use mathlib.Core.Path.{_≡_, refl, ap, sym, subst, _∙_}
 use mathlib.Core.Logic.{_⊎_, inl, inr}
 use mathlib.Core.Bool.{true, false}
-use Rattle.model.proofs.BoolLaws.{both}
+use Rattle.model.specs.declared.Batch.{Batch}
 use mathlib.Core.List.{List}
 use mathlib.Core.Option.{none}
 use native.Mathlib.Omega.{arith}
 use lib.ListN.{length}
 use borrow.Author.Tests.{le-leb, lt-leb}
-use Rattle.model.specs.declared.Batch.{Batch}
 use Rattle.model.specs.declared.Delay.{Delay}
 use Rattle.model.specs.declared.Turn.{Turn}
 use Rattle.model.specs.declared.Best.{Best}
@@ -20,20 +19,21 @@ use Rattle.model.specs.Plan.{latency}
 use Rattle.model.specs.Clash.{clashes}
 use Rattle.model.specs.Starts.{rounds, leastStarts}
 use Rattle.model.specs.Search.{inequalities, startsAt, back, prunes, visit, next}
+use Rattle.model.proofs.BoolLaws.{both}
 use Rattle.model.proofs.SeqLaws.{pad-length}
 use Rattle.model.proofs.StartsLaws.{Inside, rounds-length}
 use Rattle.model.proofs.GoodLaws.{good-named}
 use Rattle.model.proofs.SoundLaws.{fits}
 use Rattle.model.proofs.UnderLaws.{Below, under-rounds, stopped-back, beyond-none}
-use Rattle.starts.specs.Rounds.{Reached, roundsOf, timely}
-use Rattle.weights.specs.Delays.{delaysRead}
 use Rattle.times.specs.Stays.{staysRead}
 use Rattle.times.specs.Latency.{latencyOf}
 use Rattle.times.specs.Ends.{earliestRead, latestRead}
+use Rattle.times.proofs.LatencyLaws.{latency-padded}
+use Rattle.weights.specs.Delays.{delaysRead}
+use Rattle.weights.proofs.SoundLaws.{delays-length}
+use Rattle.rounds.specs.Rounds.{Reached, roundsOf, timely}
 use Rattle.starts.specs.Least.{leastOf}
 use Rattle.starts.proofs.PlaceLaws.{Tabled}
-use Rattle.times.proofs.LatencyLaws.{latency-padded}
-use Rattle.weights.proofs.SoundLaws.{delays-length}
 use Rattle.starts.proofs.FromLaws.{Came}
 use Rattle.starts.proofs.Law.{pathTable, path-tabled, came, found-below, found-least, lost-least}
 use Rattle.node.specs.declared.visit.Walk.{Walk}

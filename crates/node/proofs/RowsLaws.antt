@@ -19,14 +19,14 @@ use Rattle.model.specs.Search.{turned, inequalities}
 use Rattle.model.proofs.SeqLaws.{pad-at, pad-length, map-snoc, listed-cong}
 use Rattle.model.proofs.StartsLaws.{ends-length}
 use Rattle.model.proofs.UnderLaws.{Below, under-first, under-path, under-raised}
-use Rattle.weights.specs.Code.{coded, Fits}
 use Rattle.times.specs.Fill.{Small}
 use Rattle.times.specs.Ends.{earliestRead}
 use Rattle.times.specs.Latency.{latencyOf}
-use Rattle.weights.proofs.CodeLaws.{coded-most, plus-coded}
 use Rattle.times.proofs.FillLaws.{set-all, zeros-small}
 use Rattle.times.proofs.LatencyLaws.{latency-set}
 use Rattle.times.proofs.EndsLaws.{earliest-is}
+use Rattle.weights.specs.Code.{coded, Fits}
+use Rattle.weights.proofs.CodeLaws.{coded-most, plus-coded}
 use Rattle.node.specs.Walk.{turnOf, turnsIn, Kin}
 use Rattle.node.specs.Rows.{raisedStart, raisedRow, begun, Base, Kept}
 use Rattle.node.proofs.BackLaws.{turns-more, turns-set}

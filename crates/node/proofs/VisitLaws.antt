@@ -27,13 +27,13 @@ use Rattle.model.proofs.SoundLaws.{fits}
 use Rattle.clashes.specs.declared.Met.{Met}
 use Rattle.clashes.specs.declared.Met.the-variants as seen
 use Rattle.clashes.specs.First.{Named as NamedCode, Known, Unmet, metOf, firstCode}
-use Rattle.clashes.specs.Pairs.{OfJobs, NoneMet}
 use Rattle.clashes.proofs.ListedLaws.{list-fits, list-known, first-listed}
+use Rattle.pairs.specs.Pairs.{OfJobs, NoneMet}
 use Rattle.times.specs.Fill.{Small}
 use Rattle.times.specs.Latency.{latencyOf}
-use Rattle.weights.specs.Turn.{turnFrom, turnTo, turnCode}
 use Rattle.times.proofs.LatencyLaws.{latency-padded}
-use Rattle.starts.proofs.RoundLaws.{below-small}
+use Rattle.weights.specs.Turn.{turnFrom, turnTo, turnCode}
+use Rattle.rounds.proofs.RoundLaws.{below-small}
 use Rattle.node.specs.declared.visit.Walk.{Walk}
 use Rattle.node.specs.declared.visit.Sizes.{Sizes}
 use Rattle.node.specs.Walk.{turnOf, turnsIn, incumbent, placeAt}

@@ -34,16 +34,16 @@ use Rattle.clashes.specs.List.{Tabled, listOf}
 use Rattle.clashes.specs.First.{Named as NamedCode}
 use Rattle.clashes.proofs.LimitLaws.{tabled}
 use Rattle.clashes.proofs.ListedLaws.{ranged-at, listed-at as clash-listed-at, list-code}
-use Rattle.weights.specs.Code.{coded, Fits, ClashFits}
 use Rattle.times.specs.Fill.{Small}
-use Rattle.starts.specs.Table.{Placed}
-use Rattle.weights.specs.Delays.{delaysRead}
 use Rattle.times.specs.Stays.{staysRead}
-use Rattle.weights.specs.Holds.{Holds}
-use Rattle.starts.proofs.HeldLaws.{held-placed}
-use Rattle.weights.proofs.TurnLaws.{clash-named, turn-side}
 use Rattle.times.proofs.LatencyLaws.{stays-small}
+use Rattle.weights.specs.Code.{coded, Fits, ClashFits}
+use Rattle.weights.specs.Delays.{delaysRead}
+use Rattle.weights.specs.Holds.{Holds}
+use Rattle.weights.proofs.TurnLaws.{clash-named, turn-side}
 use Rattle.weights.proofs.SoundLaws.{delays-length, holds-read}
+use Rattle.starts.specs.Table.{Placed}
+use Rattle.starts.proofs.HeldLaws.{held-placed}
 use Rattle.node.specs.declared.visit.Walk.{Walk}
 use Rattle.node.specs.declared.visit.Sizes.{Sizes}
 use Rattle.node.specs.Walk.{turnOf, turnsIn, Path, Coded, boundOf, placeAt}

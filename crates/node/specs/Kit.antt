@@ -12,12 +12,12 @@ use Rattle.model.specs.Clash.{clashes}
 use Rattle.model.specs.Search.{startsAt, prunes, back, next, searchOf}
 use Rattle.model.specs.Sound.{sound}
 use Rattle.clashes.specs.List.{listOf}
-use Rattle.clashes.specs.Pairs.{Paired}
-use Rattle.weights.specs.Delays.{delaysRead}
-use Rattle.starts.specs.Table.{heaviestOf}
+use Rattle.pairs.specs.Pairs.{Paired}
 use Rattle.times.specs.Stays.{staysRead}
 use Rattle.times.specs.Ends.{earliestRead, latestRead}
 use Rattle.times.specs.Latency.{latencyOf}
+use Rattle.weights.specs.Delays.{delaysRead}
+use Rattle.starts.specs.Table.{heaviestOf}
 use Rattle.node.specs.declared.visit.Walk.{Walk}
 use Rattle.node.specs.declared.visit.Sizes.{Sizes}
 use Rattle.node.specs.Walk.{Path, Kin, Steps, incumbent, turnsIn, placeAt}

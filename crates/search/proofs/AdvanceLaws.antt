@@ -15,19 +15,19 @@ use Rattle.model.specs.Search.{Place, empty, placeOf, searchOf, nodesOn, nodes}
 use Rattle.model.specs.Sound.{sound}
 use Rattle.model.proofs.LimitLaws.{counts-iff}
 use Rattle.model.proofs.SoundLaws.{record-passes, fits}
-use Rattle.times.specs.Fill.{Small}
-use Rattle.times.proofs.EndsLaws.{earliest-small}
-use Rattle.clashes.specs.First.{Known}
-use Rattle.clashes.specs.Pairs.{Near, Paired}
+use Rattle.clashes.specs.First.{Known, Near}
 use Rattle.clashes.proofs.LimitLaws.{tabled}
 use Rattle.clashes.proofs.ListedLaws.{list-fits, list-known, list-near}
+use Rattle.pairs.specs.Pairs.{Paired}
+use Rattle.times.specs.Fill.{Small}
+use Rattle.times.specs.Latency.{latencyOf, raisedBy}
+use Rattle.times.proofs.EndsLaws.{earliest-small}
 use Rattle.weights.specs.declared.delays.Delays.{Delays}
-use Rattle.starts.specs.Table.{Placed}
 use Rattle.weights.specs.Delays.{delaysRead}
+use Rattle.weights.proofs.SoundLaws.{delays-length, holds-read}
+use Rattle.starts.specs.Table.{Placed}
 use Rattle.starts.specs.Table.{heaviestOf}
 use Rattle.starts.proofs.HeldLaws.{held-placed}
-use Rattle.weights.proofs.SoundLaws.{delays-length, holds-read}
-use Rattle.times.specs.Latency.{latencyOf, raisedBy}
 use Rattle.soundness.specs.declared.Examined.{Examined}
 use Rattle.soundness.specs.Examined.{Prepared}
 use Rattle.node.specs.declared.visit.Walk.{Walk}

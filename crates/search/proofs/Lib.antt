@@ -1,6 +1,5 @@
 -- The laws behind the proofs of a run.
 pub mod AnswerLaws
-pub mod NodesLaws
 pub mod RecordLaws
 pub mod RunLaws
 pub mod AdvanceLaws

@@ -17,10 +17,10 @@ use Rattle.model.specs.Limits.{mostBudget, mostTotal}
 use Rattle.model.specs.Clash.{clashes}
 use Rattle.model.specs.Search.{nodes, nodesOn}
 use Rattle.model.specs.Sound.{sound}
+use Rattle.model.specs.Run.{runRefusal, answerOf, startsAfter, answered, ranAs, ran}
 use Rattle.model.proofs.LeaveLaws.{nodes-batch}
 use Rattle.model.proofs.SoundLaws.{fits, record-passes}
-use Rattle.search.proofs.NodesLaws.{nodes-over}
-use Rattle.model.specs.Run.{runRefusal, answerOf, startsAfter, answered, ranAs, ran}
+use Rattle.nodes.proofs.NodesLaws.{nodes-over}
 
 -- the tests of the table, in turn
 tests : Bool → Bool → Bool → Bool → Outcome (Unit {0})

@@ -1,6 +1,5 @@
 // A run: nodes until the search has ended or the budget is used, and its answer.
 mod answer;
-mod nodes;
 mod path;
 mod run;
 

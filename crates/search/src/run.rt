@@ -1,9 +1,6 @@
 // A run: refusals 11 to 14 in turn, then nodes until the search has ended or the budget is used, and the answer.
 use crate::answer::answered;
-use crate::nodes::Walked;
-use crate::nodes::visit_nodes;
 use crate::path::path_of;
-use clashes::find_pairs;
 use model::Answer;
 use model::Batch;
 use model::Ran;
@@ -13,6 +10,9 @@ use model::wide;
 use model::wide16;
 use node::visit::Sizes;
 use node::visit::Walk;
+use nodes::Walked;
+use nodes::visit_nodes;
+use pairs::find_pairs;
 use soundness::Examined;
 use soundness::examine;
 use starts::heaviest_of;

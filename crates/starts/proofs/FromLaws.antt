@@ -17,12 +17,12 @@ use Rattle.model.proofs.SeqLaws.{pad-at, pad-length}
 use Rattle.model.proofs.StartsLaws.{rounds-length}
 use Rattle.model.proofs.UnderLaws.{round-more}
 use Rattle.times.specs.Fill.{Small}
-use Rattle.starts.specs.Rounds.{startOf, roundOf, sameTo, Reached, roundsOf}
 use Rattle.times.specs.Latency.{latencyOf, raisedBy}
 use Rattle.times.proofs.FillLaws.{filled-is, filled-cong, filled-rest}
+use Rattle.rounds.specs.Rounds.{startOf, roundOf, sameTo, Reached, roundsOf}
+use Rattle.rounds.proofs.RoundLaws.{same-self, same-at, below-small, next-latency}
 use Rattle.starts.proofs.PlaceLaws.{Tabled}
 use Rattle.starts.proofs.RaisedLaws.{start-raised, raised-past, raised-cong}
-use Rattle.starts.proofs.RoundLaws.{same-self, same-at, below-small, next-latency}
 
 -- the starts after j rounds still differ from those after j − 1
 abbrev pub Changed : List Delay → List ℕ → ℕ → Type 0

@@ -11,11 +11,11 @@ use lib.ListN.{length, getD, take}
 use lib.Seq.{take-suc, take-length}
 use Rattle.model.specs.declared.Delay.{Delay}
 use Rattle.model.specs.Batch.{blankDelay}
-use Rattle.weights.specs.Code.{coded}
 use Rattle.times.specs.Fill.{filled}
-use Rattle.starts.specs.Table.{storeIn, withPut, withStored, emptyTable, heaviestOf, Placed}
-use Rattle.weights.specs.Holds.{Holds}
 use Rattle.times.proofs.FillLaws.{filled-at}
+use Rattle.weights.specs.Code.{coded}
+use Rattle.weights.specs.Holds.{Holds}
+use Rattle.starts.specs.Table.{storeIn, withPut, withStored, emptyTable, heaviestOf, Placed}
 use Rattle.starts.proofs.PlaceLaws.{codeAt, kept, code-snoc, Tabled, empty-tabled, put-tabled, store-rows, store-wide, store-same, store-other, other-pair}
 
 -- without inequalities a place is empty

@@ -23,17 +23,17 @@ use Rattle.model.proofs.BoolLaws.{apart, both}
 use Rattle.model.proofs.SeqLaws.{listed-at, listed-length, getD-same}
 use Rattle.model.proofs.StartsLaws.{Inside, rounds-length, ends-length, inside-ends}
 use Rattle.model.proofs.UnderLaws.{Below, under-rounds, round-more, settled-least, late-none, changed-none}
-use Rattle.weights.specs.Code.{placeCode}
-use Rattle.starts.specs.Table.{withPut, withStored, emptyTable, heaviestOf}
-use Rattle.starts.specs.Rounds.{Reached, roundsOf, timely}
 use Rattle.times.specs.Stays.{staysRead}
 use Rattle.times.specs.Latency.{latencyOf}
-use Rattle.weights.specs.Holds.{Holds}
 use Rattle.times.specs.Ends.{latestRead, noneLate}
 use Rattle.times.proofs.EndsLaws.{time-is}
+use Rattle.times.proofs.LatencyLaws.{latency-padded}
+use Rattle.weights.specs.Code.{placeCode}
+use Rattle.weights.specs.Holds.{Holds}
+use Rattle.rounds.specs.Rounds.{Reached, roundsOf, timely}
+use Rattle.starts.specs.Table.{withPut, withStored, emptyTable, heaviestOf}
 use Rattle.starts.proofs.PlaceLaws.{code-is, Tabled}
 use Rattle.starts.proofs.HeldLaws.{held-tabled, heavy-tabled}
-use Rattle.times.proofs.LatencyLaws.{latency-padded}
 use Rattle.starts.proofs.FromLaws.{Changed, Ending, settled, stopped, used, Came, rounds-came}
 
 -- ---- the table

@@ -2,7 +2,7 @@
 use mathlib.Core.Path.{_≡_, ap, _∙_}
 use mathlib.Core.List.{List}
 use Prim.Native.Nat.{ℕ, _+_, _/_}
-use Rattle.starts.specs.Rounds.{Reached, roundsOf, timely}
+use Rattle.rounds.specs.Rounds.{Reached, roundsOf, timely}
 use Rattle.starts.specs.Table.{withPut, withStored, emptyTable}
 use Rattle.starts.specs.Least.{leastOf}
 

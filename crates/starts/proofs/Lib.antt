@@ -1,5 +1,4 @@
 -- Laws of this crate's definitions. `Law` has those that a caller wants.
-pub mod RoundLaws
 pub mod TableLaws
 pub mod PlaceLaws
 pub mod HeldLaws

@@ -27,7 +27,7 @@ use Rattle.weights.specs.declared.delays.Delays.{Delays}
 use Rattle.weights.specs.Delays.{delaysRead, DelaysSound}
 use Rattle.weights.specs.Holds.{Holds}
 use Rattle.weights.proofs.SoundLaws.{delays-length, holds-read}
-use Rattle.starts.specs.Rounds.{Reached, roundsOf, timely}
+use Rattle.rounds.specs.Rounds.{Reached, roundsOf, timely}
 use Rattle.starts.specs.Table.{withPut, emptyTable, Placed}
 use Rattle.starts.proofs.PlaceLaws.{Tabled, empty-tabled}
 use Rattle.starts.proofs.RaisedLaws.{fits-slow}

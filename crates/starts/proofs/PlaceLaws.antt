@@ -19,8 +19,8 @@ use Rattle.model.specs.Common.{if_then_else_}
 use Rattle.model.specs.Starts.{heavier, entry}
 use Rattle.model.proofs.BoolLaws.{and-false}
 use Rattle.weights.specs.Code.{Limited, coded, placeCode, Fits}
-use Rattle.starts.specs.Table.{storeIn, putIn, emptyTable}
 use Rattle.weights.proofs.CodeLaws.{coded-most, coded-le, coded-gt}
+use Rattle.starts.specs.Table.{storeIn, putIn, emptyTable}
 
 -- the smaller of a code and what a place has, where the inequality is one for that place
 unfoldable pub kept : Bool → ℕ → ℕ → ℕ

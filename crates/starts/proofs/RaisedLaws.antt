@@ -16,9 +16,9 @@ use Rattle.model.specs.Starts.{plus, raised}
 use Rattle.model.proofs.StartsLaws.{raised-old}
 use Rattle.model.proofs.BoundLaws.{Slow}
 use Rattle.weights.specs.Code.{coded, Fits}
-use Rattle.starts.specs.Rounds.{sumAt, largest, liftedOf, startOf}
 use Rattle.weights.proofs.CodeLaws.{plus-coded}
-use Rattle.starts.proofs.RoundLaws.{lifted-at}
+use Rattle.rounds.specs.Rounds.{sumAt, largest, liftedOf, startOf}
+use Rattle.rounds.proofs.RoundLaws.{lifted-at}
 use Rattle.starts.proofs.PlaceLaws.{codeAt, kept}
 
 -- ---- the largest of a column

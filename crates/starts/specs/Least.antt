@@ -1,7 +1,7 @@
 -- Least starts by the table.
 use Prim.Native.Nat.{ℕ, _+_, _/_}
 use mathlib.Core.List.{List}
-use Rattle.starts.specs.Rounds.{Reached, roundsOf, timely}
+use Rattle.rounds.specs.Rounds.{Reached, roundsOf, timely}
 use Rattle.starts.specs.Table.{withPut, withStored, emptyTable}
 
 -- rounds over the table of the first m delays and the first depth turns, over n jobs, and whether their starts are in time

@@ -1,4 +1,3 @@
 -- What the functions of this crate compute, in terms of the arrays they are given.
-pub mod Rounds
 pub mod Table
 pub mod Least

@@ -1,8 +1,8 @@
 // Least starts (earliest start times) of a batch's delays and of the turns taken so far, by rounds over a local table of weights.
 // A place of the table holds 65,535 where it is empty, and 1,000 less the weight otherwise.
-use crate::rounds::rounds;
 use crate::table::put_turns;
 use crate::table::store_delays;
+use rounds::rounds::rounds;
 ghost use mathlib.Core.Path.{_≡_};
 ghost use Prim.Native.Nat.{_≤_, _<_};
 ghost use lib.ListN.{length};
@@ -13,7 +13,6 @@ ghost use Rattle.starts.specs.Least.{leastOf};
 
 mod heaviest;
 pub mod met;
-mod rounds;
 mod table;
 
 pub use heaviest::heaviest_of;

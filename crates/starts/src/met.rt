@@ -1,9 +1,9 @@
 // Whether some starts meet a batch's delays and ends: they do exactly where the delays, with no turn, have least starts between the ends. No least start passes
 // 43,000.
-use crate::rounds::rounds;
 use crate::table::put_delays;
 use model::Batch;
 use model::wide;
+use rounds::rounds::rounds;
 use times::ends::Ends;
 use times::ends::ends_of;
 use times::latency::raised_latency;

@@ -2,7 +2,7 @@
 use mathlib.Core.Path.{_≡_, refl, _∙_}
 use borrow.Author.Needs.{needs}
 use lib.ListN.{length, length-map}
-use Rattle.clashes.proofs.PairedLaws.{room-new}
+use Rattle.pairs.proofs.PairedLaws.{room-new}
 use Rattle.node.proofs.StepsLaws.{steps-none}
 use Rattle.search.proofs.AdvanceLaws.{first-placed, first-paired, first-times, first-path, first-coded, first-works, advanced}
 use Rattle.search.proofs.run.advance.Statement.{statement}

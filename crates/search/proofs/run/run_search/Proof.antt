@@ -4,6 +4,7 @@ use mathlib.Core.Bool.{not}
 use native.Mathlib.Omega.{arith}
 use borrow.Author.Needs.{needs}
 use borrow.Author.Tests.{not-true, not-false}
+use Rattle.soundness.proofs.examine.Reads as examine-reads
 use Rattle.search.proofs.RunLaws.{ran-11, ran-12, ran-13, ran-14, ran-on, left-as, jobs-kept, sound-jobs}
 use Rattle.search.proofs.run.run_search.Statement.{statement}
 use Rattle.search.proofs.run.run_search.Tie as tie
@@ -13,7 +14,6 @@ use Rattle.search.proofs.answer.answered.Reads as answered-reads
 use Rattle.search.proofs.run.after_run.Reads as after-run-reads
 use Rattle.search.proofs.run.overdrawn.Reads as overdrawn-reads
 use Rattle.search.proofs.run.refused.Reads as refused-reads
-use Rattle.soundness.proofs.examine.Reads as examine-reads
 
 refused-requires : tie.Need-refused-requires
 refused-requires c κs = search needs

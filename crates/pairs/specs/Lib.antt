@@ -1,0 +1,2 @@
+-- What finding the pairs and asking them yields.
+pub mod Pairs
