@@ -5,7 +5,7 @@ use crate::text::{put, put_colon, put_list, put_text};
 use model::{Search, Written};
 
 // The present record after a line, and the length of the output.
-#[derive(Drop)]
+#[derive(Clone, Copy)]
 pub struct Done {
     pub search: Search,
     pub length: usize,

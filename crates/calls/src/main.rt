@@ -1,4 +1,6 @@
 // A check program over the planner's public calls: calls on standard input, one a line, and answers on standard output.
+#![tactic(auto)]
+
 mod answers;
 mod calling;
 mod commands;
@@ -16,7 +18,7 @@ use model::Search;
 use text::put;
 
 // The present record, the length of the line that is being read, and whether more may come.
-#[derive(Drop)]
+#[derive(Clone, Copy)]
 struct State {
     search: Search,
     filled: usize,

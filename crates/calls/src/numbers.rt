@@ -9,14 +9,14 @@ const LARGEST: u64 = 4294967295;
 const BROKEN: usize = 5;
 
 // The first `count` values are the numbers; the others are 0.
-#[derive(Drop)]
+#[derive(Clone, Copy)]
 pub struct Numbers {
     pub count: usize,
     pub values: [u64; 4],
 }
 
 // A number that was read, and where it ends. Above the largest it is none.
-#[derive(Drop)]
+#[derive(Clone, Copy)]
 struct Number {
     value: u64,
     next: usize,

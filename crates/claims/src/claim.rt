@@ -6,14 +6,14 @@ use frame_read::frame::{frame_byte, frame_is, frame_wide};
 use lines::{Line, line_at};
 
 // n, the latency and the place behind the line; or no B0 line with 01. The total is not judged, and not read.
-#[derive(Drop)]
+#[derive(Clone, Copy)]
 pub enum Head {
     Read(u8, u16, usize),
     Broken,
 }
 
 // The job, its start and the place behind the line; or no B1 line.
-#[derive(Drop)]
+#[derive(Clone, Copy)]
 pub enum JobLine {
     Starts(u8, u16, usize),
     Broken,

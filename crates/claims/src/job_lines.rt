@@ -9,7 +9,7 @@ use model::wide;
 
 // Whether all of them are B1 lines; if so how many, whether they name the jobs 0, 1, .. in order, and the starts of the first 24, with 0
 // in the places past them. Otherwise `formed` and `ordered` are false, and all else is 0.
-#[derive(Drop)]
+#[derive(Clone, Copy)]
 pub struct Lines {
     pub formed: bool,
     pub count: usize,

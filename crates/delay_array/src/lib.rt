@@ -1,4 +1,6 @@
 // A batch's array of delays, passed on as a list.
+#![tactic(auto)]
+
 ghost use Rattle.std.specs.Prelude.{◌≡◌, ◌≤◌, take};
 ghost use Rattle.delay_list.specs.Columns.{columns_of};
 

@@ -1,12 +1,14 @@
 // The delays of a batch as one list of records, walked from the first to the last. What is left of the walk are three parallel arrays, the
 // columns of the list, out of which each delay can be read again.
+#![tactic(auto)]
+
 ghost use Rattle.std.specs.Prelude.{◌≡◌, ◌≤◌, ◌<◌, length, set};
 ghost use Rattle.delay_list.specs.Columns.{columns_of, delay_at};
 
 use model::Delay;
 
 // Place k of each column is a part of delay k. The places past the last delay are 0.
-#[derive(Drop)]
+#[derive(Clone, Copy)]
 pub struct Columns {
     pub from: [u8; 128],
     pub to: [u8; 128],

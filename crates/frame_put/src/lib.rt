@@ -1,4 +1,6 @@
 // One line of a text, put at a place of a buffer. Each function answers the next place.
+#![tactic(auto)]
+
 mod frame;
 mod job;
 mod number;

@@ -8,7 +8,7 @@ use limits::{jobs_ok, weight_ok};
 use model::Delay;
 
 // The delay, or the refusal's number.
-#[derive(Drop)]
+#[derive(Clone, Copy)]
 pub enum DelayFrame {
     Found(Delay),
     Refused(u8),

@@ -7,7 +7,7 @@ use crate::frame::{frame_byte, frame_is};
 use limits::{counts_ok, edition_ok};
 
 // The edition, n and m, or the refusal's number.
-#[derive(Drop)]
+#[derive(Clone, Copy)]
 pub enum Header {
     Counts(u8, u8, u8),
     Refused(u8),

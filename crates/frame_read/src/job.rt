@@ -9,7 +9,7 @@ use limits::ticks_ok;
 use model::{Job, Opening, wide};
 
 // Accepted, or the refusal's number; and the job, which is blank on a refusal.
-#[derive(Drop)]
+#[derive(Clone, Copy)]
 pub struct JobFrame {
     pub answer: Opening,
     pub job: Job,

@@ -1,4 +1,6 @@
 // One frame of a batch file, read where it stands: its bytes, and for each kind what it says, with refusals 2 to 6, 20 and 21.
+#![tactic(auto)]
+
 pub mod delay;
 pub mod frame;
 pub mod header;
@@ -8,7 +10,7 @@ pub mod rest;
 pub mod window;
 
 // The place behind the frames that were read, or the refusal's number.
-#[derive(Drop)]
+#[derive(Clone, Copy)]
 pub enum Next {
     At(usize),
     Refused(u8),

@@ -10,7 +10,7 @@ use crate::numbered::rises;
 use limits::rest_line_ok;
 
 // The station and its rest, or the refusal's number.
-#[derive(Drop)]
+#[derive(Clone, Copy)]
 pub enum RestFrame {
     Found(u8, u8),
     Refused(u8),

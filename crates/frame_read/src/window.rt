@@ -11,7 +11,7 @@ use limits::ends_ok;
 use model::Window;
 
 // The job and its window, or the refusal's number.
-#[derive(Drop)]
+#[derive(Clone, Copy)]
 pub enum WindowFrame {
     Found(u8, Window),
     Refused(u8),

@@ -12,7 +12,7 @@ use lines::{Line, line_at};
 use model::{NO_WINDOW, Opening, Window};
 
 // Accepted, or the refusal's number; and what each kind says, which is blank on a refusal.
-#[derive(Drop)]
+#[derive(Clone, Copy)]
 pub struct FurtherRead {
     pub answer: Opening,
     pub windows: [Window; 24],

@@ -10,7 +10,7 @@ use lines::{Line, line_at};
 use model::wide;
 
 // The place behind the lines, and each station's rest; a refusal has no rests beside it.
-#[derive(Drop)]
+#[derive(Clone, Copy)]
 pub struct RestsRead {
     pub answer: Next,
     pub rests: [u8; 16],

@@ -10,7 +10,7 @@ use lines::{Line, line_at};
 use model::{NO_WINDOW, Window, wide};
 
 // The place behind the lines, and each job's window; a refusal has blank windows beside it.
-#[derive(Drop)]
+#[derive(Clone, Copy)]
 pub struct WindowsRead {
     pub answer: Next,
     pub windows: [Window; 24],

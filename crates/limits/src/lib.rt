@@ -1,5 +1,7 @@
 // The limits of a batch's numbers, as tests: the edition (3), n, m and p (4), a delay's jobs (5) and its weight (6), a job's ends (20) and a
 // station's rest (21).
+#![tactic(auto)]
+
 ghost use Rattle.std.specs.Prelude.{◌≡◌, ◌&&◌, leb};
 ghost use Rattle.model.specs.Common.{between};
 ghost use Rattle.model.specs.Limits.{most_rest};

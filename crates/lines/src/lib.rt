@@ -1,4 +1,6 @@
 // One line of upper-case hexadecimal, read in place from a file and written in place into a buffer.
+#![tactic(auto)]
+
 mod read;
 mod write;
 

@@ -3,7 +3,7 @@ ghost use Rattle.std.specs.Prelude.{◌≡◌, ◌+◌, ◌<◌, length};
 ghost use Rattle.lines.specs.Read.{line_at, byte_at, value, is_digit, digits_end, closes};
 
 // A whole line, by the place of its 0A; or a line without 0A, without digits, with an odd count, or with another byte.
-#[derive(Drop)]
+#[derive(Clone, Copy)]
 pub enum Line {
     Frame(usize),
     Broken,

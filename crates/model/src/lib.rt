@@ -1,11 +1,13 @@
 // The types that every room shares, small numbers as indices, and the record that an accepted opening starts from. What stands in the record
 // of the C boundary too has C's layout.
+#![tactic(auto)]
+
 ghost use Rattle.std.specs.Prelude.{◌≡◌, ◌<◌};
 ghost use Rattle.model.specs.Search.{fresh_search};
 
 // A delay: `to` starts at least `weight` ticks after `from`.
 #[repr(C)]
-#[derive(Drop)]
+#[derive(Clone, Copy)]
 pub struct Delay {
     pub from: u8,
     pub to: u8,
@@ -14,7 +16,7 @@ pub struct Delay {
 
 // A job's reservation table: bit s of masks[a] is set where the job holds station s in its tick a.
 #[repr(C)]
-#[derive(Drop)]
+#[derive(Clone, Copy)]
 pub struct Job {
     pub ticks: u16,
     pub masks: [u16; 16],
@@ -22,7 +24,7 @@ pub struct Job {
 
 // A job's earliest and latest start. `lined` is 0 where the file has no line for them, and anything else where it has one.
 #[repr(C)]
-#[derive(Drop)]
+#[derive(Clone, Copy)]
 pub struct Window {
     pub lined: u16,
     pub earliest: u16,
@@ -32,7 +34,7 @@ pub struct Window {
 // The first n jobs with their windows and the first m delays count; the other places are never looked at. rests[s] is how many ticks station s
 // rests between two jobs, 0 where the file has no line for it.
 #[repr(C)]
-#[derive(Drop)]
+#[derive(Clone, Copy)]
 pub struct Batch {
     pub n: u8,
     pub m: u8,
@@ -45,20 +47,20 @@ pub struct Batch {
 
 // A branching decision: the clash's number in the batch's list, and the side that is taken.
 #[repr(C)]
-#[derive(Drop)]
+#[derive(Clone, Copy)]
 pub struct Turn {
     pub clash: u16,
     pub side: u16,
 }
 
 // The incumbent's latency. Its starts stand beside it, since an enum holds no array.
-#[derive(Drop)]
+#[derive(Clone, Copy)]
 pub enum Best {
     Nothing,
     Latency(u16),
 }
 
-#[derive(Drop)]
+#[derive(Clone, Copy)]
 pub struct Search {
     pub batch: Batch,
     pub path: [Turn; 1024],
@@ -69,7 +71,7 @@ pub struct Search {
 }
 
 // The answer of a run.
-#[derive(Drop)]
+#[derive(Clone, Copy)]
 pub enum Answer {
     Spent(u32),
     Plan(u16, u32),
@@ -77,41 +79,41 @@ pub enum Answer {
     Refused(u8),
 }
 
-#[derive(Drop)]
+#[derive(Clone, Copy)]
 pub struct Ran {
     pub answer: Answer,
     pub search: Search,
 }
 
 // The answer of opening.
-#[derive(Drop)]
+#[derive(Clone, Copy)]
 pub enum Opening {
     Accepted,
     Refused(u8),
 }
 
-#[derive(Drop)]
+#[derive(Clone, Copy)]
 pub struct Opened {
     pub answer: Opening,
     pub search: Search,
 }
 
 // The answer of writing: the number of bytes, or the refusal.
-#[derive(Drop)]
+#[derive(Clone, Copy)]
 pub enum Written {
     Bytes(usize),
     Refused(u8),
 }
 
 // The answer of judging a plan text.
-#[derive(Drop)]
+#[derive(Clone, Copy)]
 pub enum Judgement {
     Passed,
     Refused(u8),
 }
 
 // The nodes visited and the nodes still allowed.
-#[derive(Drop)]
+#[derive(Clone, Copy)]
 pub struct Tally {
     pub total: u32,
     pub left: u32,

@@ -1,4 +1,6 @@
 // One node of the search: where its rounds begin, what they reach, and where it goes from there.
+#![tactic(auto)]
+
 mod back;
 mod rows;
 pub mod visit;

@@ -13,7 +13,7 @@ use starts::least_starts;
 use weights::turn::store_turn;
 
 // Where a search stands while it runs, its turns beside it: how many there are, and best with its starts.
-#[derive(Drop)]
+#[derive(Clone, Copy)]
 pub struct Walk {
     pub depth: usize,
     pub best: Best,
@@ -22,7 +22,7 @@ pub struct Walk {
 }
 
 // How many jobs, delays, clashes and pairs of jobs that clash there are, and the latency of the earliest starts.
-#[derive(Drop)]
+#[derive(Clone, Copy)]
 pub struct Sizes {
     pub jobs: usize,
     pub delays: usize,

@@ -8,7 +8,7 @@ use model::Tally;
 use node::visit::{Sizes, Walk, visit};
 
 // Where the search stands after the nodes, and what they counted.
-#[derive(Drop)]
+#[derive(Clone, Copy)]
 pub struct Walked {
     pub walk: Walk,
     pub tally: Tally,

@@ -1,4 +1,6 @@
 // A batch file to a fresh record: the batch that is read, with refusals 1 to 8 and 20, and then 9 and 10.
+#![tactic(auto)]
+
 mod few;
 mod open;
 

@@ -2,7 +2,7 @@
 use libc::STDIN_FILENO;
 
 // How many bytes of the buffer are filled, whether more may come, and whether a read failed.
-#[derive(Drop)]
+#[derive(Clone, Copy)]
 pub struct Input {
     pub filled: usize,
     pub more: bool,

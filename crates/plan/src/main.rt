@@ -1,5 +1,7 @@
 // The program `plan`: a batch file on standard input, its shortest plan on standard output, or BF and the refusal's number.
 // A failed read or write, and an argument, is told on standard error.
+#![tactic(auto)]
+
 mod input;
 mod text;
 

@@ -1,4 +1,6 @@
 // The planner's public calls. None asks anything of its caller: whatever is wrong with what it is given is refused, by the number that 01 or 02 gives it.
+#![tactic(auto)]
+
 ghost use Rattle.std.specs.Prelude.{◌≡◌};
 ghost use Rattle.model.specs.Open.{opened};
 ghost use Rattle.model.specs.Run.{ran};

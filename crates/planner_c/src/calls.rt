@@ -9,14 +9,14 @@ use crate::replies::{Reply, Text, number_of, reply_of, text_of};
 use model::{Answer, Opening, Search};
 
 // What opening yields: 0 or the refusal, and the record.
-#[derive(Drop)]
+#[derive(Clone, Copy)]
 pub struct Started {
     pub number: u8,
     pub state: Record,
 }
 
 // What a run yields.
-#[derive(Drop)]
+#[derive(Clone, Copy)]
 pub struct Stepped {
     pub reply: Reply,
     pub state: Record,

@@ -1,6 +1,8 @@
 // The planner's calls for C: the caller keeps the record, plain numbers only, and lends it with its buffers. None asks anything of its caller
 // beyond valid memory. Each that takes a record copies it and makes the call by value; opening and running store what it yields. Judging takes none,
 // and the version stands apart.
+#![tactic(auto)]
+
 ghost use Rattle.std.specs.Prelude.{◌≡◌};
 ghost use Rattle.model.specs.Text.{plan_text, batch_text};
 ghost use Rattle.planner_c.specs.Records.{search_in};

@@ -6,7 +6,7 @@ use model::{Batch, Best, Search, Turn};
 
 // `found` and `ended` are 0 for no and anything else for yes; without a best, `latency` and `starts` are not looked at. No byte of it is padding.
 #[repr(C)]
-#[derive(Drop)]
+#[derive(Clone, Copy)]
 pub struct Record {
     pub total: u32,
     pub latency: u16,

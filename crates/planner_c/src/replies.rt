@@ -6,7 +6,7 @@ use model::{Answer, Judgement, Opening, Written};
 
 // The answer of a run. `kind` is 0 spent, 1 a plan, 2 no plan, 3 refused; a number that the answer has not is 0.
 #[repr(C)]
-#[derive(Drop)]
+#[derive(Clone, Copy)]
 pub struct Reply {
     pub kind: u8,
     pub refusal: u8,
@@ -16,7 +16,7 @@ pub struct Reply {
 
 // The answer of writing: how many bytes and 0, or 0 and the refusal.
 #[repr(C)]
-#[derive(Drop)]
+#[derive(Clone, Copy)]
 pub struct Text {
     pub length: usize,
     pub refusal: u8,

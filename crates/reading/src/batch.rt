@@ -17,14 +17,14 @@ use lines::{Line, line_at};
 use model::{Batch, Delay, Job, NO_DELAY, NO_WINDOW, Opening, wide};
 
 // The edition, n, m and the place behind the header, or the refusal's number.
-#[derive(Drop)]
+#[derive(Clone, Copy)]
 pub enum HeaderRead {
     Counts(u8, u8, u8, usize),
     Refused(u8),
 }
 
 // Accepted, or the refusal's number; and the batch, which is blank on a refusal.
-#[derive(Drop)]
+#[derive(Clone, Copy)]
 pub struct BatchRead {
     pub answer: Opening,
     pub batch: Batch,

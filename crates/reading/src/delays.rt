@@ -10,7 +10,7 @@ use lines::{Line, line_at};
 use model::{Delay, NO_DELAY};
 
 // The place behind the delays, and the delays; a refusal has blank delays beside it.
-#[derive(Drop)]
+#[derive(Clone, Copy)]
 pub struct DelaysRead {
     pub answer: Next,
     pub delays: [Delay; 128],

@@ -10,7 +10,7 @@ use lines::{Line, line_at};
 use model::{Job, Opening};
 
 // The place behind the jobs, and the jobs; a refusal has blank jobs beside it.
-#[derive(Drop)]
+#[derive(Clone, Copy)]
 pub struct JobsRead {
     pub answer: Next,
     pub jobs: [Job; 24],

@@ -1,4 +1,6 @@
 // A run: nodes until the search has ended or the budget is used, and its answer.
+#![tactic(auto)]
+
 mod answer;
 mod path;
 mod run;

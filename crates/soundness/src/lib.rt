@@ -1,5 +1,7 @@
 // Whether a record from anywhere is sound, and in the same pass what a run works on: the clash list, the delays, the stays and the ends as
 // arrays, and the path's turns as numbers. Nothing past a limit is read before the limit is known to hold.
+#![tactic(auto)]
+
 ghost use Rattle.std.specs.Prelude.{◌≡◌, false};
 ghost use Rattle.model.specs.Sound.{sound};
 ghost use Rattle.soundness.specs.Examined.{Examines};
@@ -20,7 +22,7 @@ mod state;
 
 // What a run works on, if the record is sound. Otherwise `sound` is false, and the rest means nothing. Turn k is 2 * clash + side, for k
 // below depth.
-#[derive(Drop)]
+#[derive(Clone, Copy)]
 pub struct Examined {
     pub sound: bool,
     pub clashes: Clashes,

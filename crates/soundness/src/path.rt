@@ -6,7 +6,7 @@ ghost use Rattle.soundness.specs.Path.{turn_code, turn_new, rest_empty, Reads};
 use model::{Turn, wide16};
 
 // The turns of a path: turn k is 2 * clash + side, for k below depth. They are sound, or the rest does not matter.
-#[derive(Drop)]
+#[derive(Clone, Copy)]
 pub struct Route {
     pub sound: bool,
     pub depth: usize,

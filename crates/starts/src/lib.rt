@@ -1,5 +1,7 @@
 // Least starts (earliest start times) of a batch's delays and of the turns taken so far, by rounds over a local table of weights.
 // A place of the table holds 65,535 where it is empty, and 1,000 less the weight otherwise.
+#![tactic(auto)]
+
 ghost use Rattle.std.specs.Prelude.{◌≡◌, ◌≤◌, ◌<◌, length};
 ghost use Rattle.starts.specs.Table.{Placed};
 ghost use Rattle.times.specs.Fill.{Small};

@@ -1,4 +1,6 @@
 // Reservation tables: one widened by the rests of its stations, and whether two meet at a distance.
+#![tactic(auto)]
+
 mod meeting;
 mod rest;
 

@@ -5,7 +5,7 @@ ghost use Rattle.times.specs.Ends.{earliest_read, latest_read, none_late};
 use model::{Batch, wide};
 
 // Those of the first n jobs, and 0 in the places past them.
-#[derive(Drop)]
+#[derive(Clone, Copy)]
 pub struct Ends {
     pub earliest: [u16; 24],
     pub latest: [u16; 24],

@@ -9,7 +9,7 @@ use limits::delay_ok;
 use model::{Batch, wide};
 
 // The first m places count: from, to, and 1,000 less the weight. The others are 0.
-#[derive(Drop)]
+#[derive(Clone, Copy)]
 pub struct Delays {
     pub from: [u8; 128],
     pub to: [u8; 128],
@@ -26,7 +26,7 @@ fn code_of(w: i16) -> u16
 }
 
 // The delays read, if each of them passes. Otherwise `passed` is false, and the arrays mean nothing.
-#[derive(Drop)]
+#[derive(Clone, Copy)]
 pub struct Reading {
     pub passed: bool,
     pub delays: Delays,

@@ -1,5 +1,7 @@
 // The batch text and the plan text of a record, into a buffer. Each line is put behind the one before it; nothing is written where
 // the text does not fit.
+#![tactic(auto)]
+
 mod batch;
 mod batch_text;
 mod plan;

@@ -11,8 +11,8 @@ invariant-loop line₀ now₀ turns₀ line now turns = length line ≡ length l
 abbrev decreases-loop : tie.decreases-loop
 decreases-loop line₀ now₀ turns₀ line now turns = turns
 
-pub answer-all-spec : {M : Type 1} → statement M
-answer-all-spec =
+pub answer_all_spec : {M : Type 1} → statement M
+answer_all_spec =
     tie.close
     (tie.spec invariant-loop decreases-loop
     (search rules) (search rules) (search rules) (search rules) (search rules) (search rules)

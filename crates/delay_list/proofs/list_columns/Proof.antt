@@ -322,9 +322,9 @@ module _ {M : Type 1} {𝓤 : Ura M} (𝓛 : Logic 𝓤) where
       list-columns-meets =
           walk_Meets 𝓛 f.ended stayed (Goes-none_slice 𝓛 1 (0 ∷ []) tt (plain (λ _. T.the_row)) yes, tt) (f.clauses 𝓛 at_mem run) (WpFn 𝓤 H 𝓣.C 𝓣.Λ code.function) (WpFn-mono 𝓤 H 𝓛.laws 𝓣 code.function) list-columns-walks
 
-pub list-columns-spec : {M : Type 1} → stated.statement M
+pub list_columns_spec : {M : Type 1} → stated.statement M
 unfolding code.routine tables_of
-list-columns-spec 𝓤 𝓛 𝓜 𝓡 =
+list_columns_spec 𝓤 𝓛 𝓜 𝓡 =
     entered 𝓤 𝓛.H (triple_of 𝓛 f.signature (f.spec 𝓛 𝓜.mem 𝓡.run))
     (tables 𝓤 𝓛.H 𝓜 𝓡 code.env).C (tables 𝓤 𝓛.H 𝓜 𝓡 code.env).Λ #delay-list·list-columns code.function (code.unfolded 𝓤 𝓛.H 𝓜 𝓡)
     (list-columns-meets 𝓛 𝓜.mem 𝓡.run (tables_of 𝓤 𝓛.H 𝓜 (tables 𝓤 𝓛.H 𝓜 𝓡 code.env))

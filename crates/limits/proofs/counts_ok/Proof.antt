@@ -17,5 +17,5 @@ returns-3 : tie.Need-returns-3
 unfolding counts_ok between
 returns-3 c = simp (le-leb _ _ c.before.if1.false, le-leb _ _ c.if2.false)
 
-pub counts-ok-spec : {M : Type 1} → statement M
-counts-ok-spec = tie.close (tie.spec returns returns-2 returns-3)
+pub counts_ok_spec : {M : Type 1} → statement M
+counts_ok_spec = tie.close (tie.spec returns returns-2 returns-3)

@@ -17,5 +17,5 @@ returns c = c.weight-ok.ensures ∙ and_then _ _ _ c.before.before.jobs-ok.ensur
 returns-2 : tie.Need-returns-2
 returns-2 c = and_else _ _ _ c.before.jobs-ok.ensures c.if1.false
 
-pub delay-ok-spec : {M : Type 1} → statement M
-delay-ok-spec = tie.close (tie.spec jobs-ok-requires weight-ok-requires returns returns-2)
+pub delay_ok_spec : {M : Type 1} → statement M
+delay_ok_spec = tie.close (tie.spec jobs-ok-requires weight-ok-requires returns returns-2)

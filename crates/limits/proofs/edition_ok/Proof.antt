@@ -12,5 +12,5 @@ returns-2 : tie.Need-returns-2
 unfolding edition_ok
 returns-2 c = simp (ne_eqb _ _ c.if1.false)
 
-pub edition-ok-spec : {M : Type 1} → statement M
-edition-ok-spec = tie.close (tie.spec returns returns-2)
+pub edition_ok_spec : {M : Type 1} → statement M
+edition_ok_spec = tie.close (tie.spec returns returns-2)

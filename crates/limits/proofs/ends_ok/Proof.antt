@@ -12,5 +12,5 @@ returns-2 : tie.Need-returns-2
 unfolding ends_ok
 returns-2 c = simp (lt-leb _ _ c.if1.false)
 
-pub ends-ok-spec : {M : Type 1} → statement M
-ends-ok-spec = tie.close (tie.spec returns returns-2)
+pub ends_ok_spec : {M : Type 1} → statement M
+ends_ok_spec = tie.close (tie.spec returns returns-2)

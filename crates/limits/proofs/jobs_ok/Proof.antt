@@ -16,5 +16,5 @@ returns-3 : tie.Need-returns-3
 unfolding jobs_ok
 returns-3 c = simp (lt-ltb _ _ c.before.if1.false, lt-ltb _ _ c.if2.false)
 
-pub jobs-ok-spec : {M : Type 1} → statement M
-jobs-ok-spec = tie.close (tie.spec returns returns-2 returns-3)
+pub jobs_ok_spec : {M : Type 1} → statement M
+jobs_ok_spec = tie.close (tie.spec returns returns-2 returns-3)

@@ -6,9 +6,9 @@ use Rattle.model.specs.Common.{between}
 use Rattle.limits.proofs.rest_line_ok.Statement.{statement}
 use Rattle.limits.proofs.rest_line_ok.Tie as tie
 
-pub rest-line-ok-spec : {M : Type 1} → statement M
+pub rest_line_ok_spec : {M : Type 1} → statement M
 unfolding between
-rest-line-ok-spec =
+rest_line_ok_spec =
     tie.close
     (tie.spec
     (λ c κs. search rules)

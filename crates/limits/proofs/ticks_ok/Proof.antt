@@ -13,5 +13,5 @@ returns-2 : tie.Need-returns-2
 unfolding ticks_ok between
 returns-2 c = simp (lt-leb _ _ c.if1.false)
 
-pub ticks-ok-spec : {M : Type 1} → statement M
-ticks-ok-spec = tie.close (tie.spec returns returns-2)
+pub ticks_ok_spec : {M : Type 1} → statement M
+ticks_ok_spec = tie.close (tie.spec returns returns-2)

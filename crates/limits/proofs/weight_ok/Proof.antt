@@ -12,5 +12,5 @@ returns c = weight_yes _ _ (to_z-of_z w16 _ (search rules)) c.if1.true
 returns-2 : tie.Need-returns-2
 returns-2 c = weight_no _ _ (to_z-of_z w16 _ (search rules)) c.if1.false
 
-pub weight-ok-spec : {M : Type 1} → statement M
-weight-ok-spec = tie.close (tie.spec returns returns-2)
+pub weight_ok_spec : {M : Type 1} → statement M
+weight_ok_spec = tie.close (tie.spec returns returns-2)

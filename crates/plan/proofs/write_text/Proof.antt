@@ -21,5 +21,5 @@ write-all-requires c κs = search rules
 returns-2 : tie.Need-returns-2
 returns-2 c = search rules
 
-pub write-text-spec : {M : Type 1} → statement M
-write-text-spec = tie.close (tie.spec returns slice-aggregate-write-all write-all-requires returns-2)
+pub write_text_spec : {M : Type 1} → statement M
+write_text_spec = tie.close (tie.spec returns slice-aggregate-write-all write-all-requires returns-2)

@@ -6,5 +6,5 @@ use Rattle.planner.proofs.judge.Tie as tie
 returns : tie.Need-returns
 returns c = c.judge-file.ensures
 
-pub judge-spec : {M : Type 1} → statement M
-judge-spec = tie.close (tie.spec (λ c κs. search rules) returns)
+pub judge_spec : {M : Type 1} → statement M
+judge_spec = tie.close (tie.spec (λ c κs. search rules) returns)

@@ -6,5 +6,5 @@ use Rattle.planner.proofs.write_batch.Tie as tie
 returns : tie.Need-returns
 returns c = c.before.before.write-batch.ensures
 
-pub write-batch-spec : {M : Type 1} → statement M
-write-batch-spec = tie.close (tie.spec (λ c κs. search rules) (λ c. search rules) returns)
+pub write_batch_spec : {M : Type 1} → statement M
+write_batch_spec = tie.close (tie.spec (λ c κs. search rules) (λ c. search rules) returns)

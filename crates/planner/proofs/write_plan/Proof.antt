@@ -6,5 +6,5 @@ use Rattle.planner.proofs.write_plan.Tie as tie
 returns : tie.Need-returns
 returns c = c.before.before.write-plan.ensures
 
-pub write-plan-spec : {M : Type 1} → statement M
-write-plan-spec = tie.close (tie.spec (λ c κs. search rules) (λ c. search rules) returns)
+pub write_plan_spec : {M : Type 1} → statement M
+write_plan_spec = tie.close (tie.spec (λ c κs. search rules) (λ c. search rules) returns)

@@ -6,9 +6,9 @@ use Rattle.planner_c.specs.Calls.{judged_number}
 use Rattle.planner_c.proofs.planner_judge.Statement.{statement}
 use Rattle.planner_c.proofs.planner_judge.Tie as tie
 
-pub planner-judge-spec : {M : Type 1} → statement M
+pub planner_judge_spec : {M : Type 1} → statement M
 unfolding judged_number
-planner-judge-spec =
+planner_judge_spec =
     tie.close
     (tie.spec
     (λ c κs. search rules)

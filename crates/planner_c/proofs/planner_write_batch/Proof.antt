@@ -23,9 +23,9 @@ use Rattle.planner_c.proofs.planner_write_batch.Code as code
 same : {M : Type 1} {𝓤 : Ura M} (𝓛 : Logic 𝓤) (mem : Memory → SProp 𝓤) (run : Routine → Fun 𝓤) → f.clauses 𝓛 mem run ≡ clauses batch_text 𝓤
 same 𝓛 mem run = refl
 
-pub planner-write-batch-spec : {M : Type 1} → stated.statement M
+pub planner_write_batch_spec : {M : Type 1} → stated.statement M
 unfolding code.routine tables_of
-planner-write-batch-spec 𝓤 𝓛 𝓜 𝓡 =
+planner_write_batch_spec 𝓤 𝓛 𝓜 𝓡 =
     entered 𝓤 𝓛.H (triple_of 𝓛 f.signature (f.spec 𝓛 𝓜.mem 𝓡.run))
     (tables 𝓤 𝓛.H 𝓜 𝓡 code.env).C (tables 𝓤 𝓛.H 𝓜 𝓡 code.env).Λ #this code.function (code.unfolded 𝓤 𝓛.H 𝓜 𝓡)
     (meets batch_text #callee 𝓛 (tables_of 𝓤 𝓛.H 𝓜 (tables 𝓤 𝓛.H 𝓜 𝓡 code.env))

@@ -76,8 +76,8 @@ returns-5 c =
     few.before.list-clashes.ensures few.if3.false met.before.read-delays-met.ensures met.if4.false path.read-path.ensures c.before.state-ok.ensures
     c.Stays-of.ensures ends.ends_of.ensures.0 ends.ends_of.ensures.1
 
-pub examine-spec : {M : Type 1} → statement M
-examine-spec =
+pub examine_spec : {M : Type 1} → statement M
+examine_spec =
     tie.close
     (tie.spec
     limits-pass-requires

@@ -7,9 +7,9 @@ use Rattle.starts.proofs.Law.{fours_high}
 use Rattle.starts.proofs.least_starts.Statement.{statement}
 use Rattle.starts.proofs.least_starts.Tie as tie
 
-pub least-starts-spec : {M : Type 1} → statement M
+pub least_starts_spec : {M : Type 1} → statement M
 unfolding empty_table
-least-starts-spec =
+least_starts_spec =
     tie.close
     (tie.spec
     (λ c κs. search rules)

@@ -21,5 +21,5 @@ returns-2 : tie.Need-returns-2
 unfolding counts_pass
 returns-2 c = and_else _ _ _ c.before.counts-ok.ensures c.if1.false
 
-pub counts-pass-spec : {M : Type 1} → statement M
-counts-pass-spec = tie.close (tie.spec counts-ok-requires ticks-pass-requires returns returns-2)
+pub counts_pass_spec : {M : Type 1} → statement M
+counts_pass_spec = tie.close (tie.spec counts-ok-requires ticks-pass-requires returns returns-2)

@@ -4,8 +4,8 @@ use Rattle.batch_limits.proofs.FurtherLaws.{limits_counts, limits_jobs, limits_e
 use Rattle.batch_limits.proofs.batch.limits_pass.Statement.{statement}
 use Rattle.batch_limits.proofs.batch.limits_pass.Tie as tie
 
-pub limits-pass-spec : {M : Type 1} → statement M
-limits-pass-spec =
+pub limits_pass_spec : {M : Type 1} → statement M
+limits_pass_spec =
     tie.close
     (tie.spec
     (λ c κs. search rules)

@@ -49,8 +49,8 @@ loop-again c =
 returns-2 : tie.Need-returns-2 invariant-loop decreases-loop
 returns-2 c = all_ended _ _ _ _ c.before.loop.invariant.1 c.loop-test.false
 
-pub ticks-pass-spec : {M : Type 1} → statement M
-ticks-pass-spec =
+pub ticks_pass_spec : {M : Type 1} → statement M
+ticks_pass_spec =
     tie.close
     (tie.spec
     invariant-loop

@@ -4,8 +4,8 @@ use Rattle.batch_limits.proofs.FurtherLaws.{edition_two, edition_one, edition_no
 use Rattle.batch_limits.proofs.further.edition_pass.Statement.{statement}
 use Rattle.batch_limits.proofs.further.edition_pass.Tie as tie
 
-pub edition-pass-spec : {M : Type 1} → statement M
-edition-pass-spec =
+pub edition_pass_spec : {M : Type 1} → statement M
+edition_pass_spec =
     tie.close
     (tie.spec
     (λ c. edition_two _ c.if1.true)

@@ -7,9 +7,9 @@ use Rattle.batch_limits.specs.Further.{windows_pass, rests_pass}
 use Rattle.batch_limits.proofs.further.further_pass.Statement.{statement}
 use Rattle.batch_limits.proofs.further.further_pass.Tie as tie
 
-pub further-pass-spec : {M : Type 1} → statement M
+pub further_pass_spec : {M : Type 1} → statement M
 unfolding sound_further windows_pass rests_pass
-further-pass-spec =
+further_pass_spec =
     tie.close
     (tie.spec
     (λ c κs. search rules)

@@ -7,9 +7,9 @@ use Rattle.batch_limits.specs.Further.{unlined, unrested}
 use Rattle.batch_limits.proofs.further.no_further.Statement.{statement}
 use Rattle.batch_limits.proofs.further.no_further.Tie as tie
 
-pub no-further-spec : {M : Type 1} → statement M
+pub no_further_spec : {M : Type 1} → statement M
 unfolding has_none further_of unlined unrested
-no-further-spec =
+no_further_spec =
     tie.close
     (tie.spec
     (λ c κs. search rules)

@@ -14,8 +14,8 @@ invariant-loop rests s₀ s = all_from (restless rests) s 16 ≡ all_from (restl
 abbrev decreases-loop : tie.decreases-loop
 decreases-loop rests s₀ s = 16 - s
 
-pub no-rests-spec : {M : Type 1} → statement M
-no-rests-spec =
+pub no_rests_spec : {M : Type 1} → statement M
+no_rests_spec =
     tie.close
     (tie.spec invariant-loop decreases-loop
     (λ c. refl)

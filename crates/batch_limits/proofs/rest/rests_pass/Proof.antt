@@ -14,8 +14,8 @@ invariant-loop rests s₀ s = all_from (rest_test rests) s 16 ≡ all_from (rest
 abbrev decreases-loop : tie.decreases-loop
 decreases-loop rests s₀ s = 16 - s
 
-pub rests-pass-spec : {M : Type 1} → statement M
-rests-pass-spec =
+pub rests_pass_spec : {M : Type 1} → statement M
+rests_pass_spec =
     tie.close
     (tie.spec invariant-loop decreases-loop
     (λ c. refl)

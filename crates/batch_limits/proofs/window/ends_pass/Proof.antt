@@ -4,8 +4,8 @@ use Rattle.batch_limits.proofs.FurtherLaws.{ends_lined, ends_free, ends_late}
 use Rattle.batch_limits.proofs.window.ends_pass.Statement.{statement}
 use Rattle.batch_limits.proofs.window.ends_pass.Tie as tie
 
-pub ends-pass-spec : {M : Type 1} → statement M
-ends-pass-spec =
+pub ends_pass_spec : {M : Type 1} → statement M
+ends_pass_spec =
     tie.close
     (tie.spec
     (λ c κs. search rules)

@@ -15,8 +15,8 @@ invariant-loop n windows i₀ i = (length windows ≡ 24) × (all_from (line_tes
 abbrev decreases-loop : tie.decreases-loop
 decreases-loop n windows i₀ i = n - i
 
-pub no-windows-spec : {M : Type 1} → statement M
-no-windows-spec =
+pub no_windows_spec : {M : Type 1} → statement M
+no_windows_spec =
     tie.close
     (tie.spec invariant-loop decreases-loop
     (λ c κs. search rules)

@@ -15,8 +15,8 @@ invariant-loop n windows i₀ i = (length windows ≡ 24) × (all_from (end_test
 abbrev decreases-loop : tie.decreases-loop
 decreases-loop n windows i₀ i = n - i
 
-pub windows-pass-spec : {M : Type 1} → statement M
-windows-pass-spec =
+pub windows_pass_spec : {M : Type 1} → statement M
+windows_pass_spec =
     tie.close
     (tie.spec invariant-loop decreases-loop
     (λ c κs. search rules)

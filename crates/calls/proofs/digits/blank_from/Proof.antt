@@ -11,5 +11,5 @@ invariant-loop line at next₀ next = Unit {0}
 abbrev decreases-loop : tie.decreases-loop
 decreases-loop line at next₀ next = length line - next
 
-pub blank-from-spec : {M : Type 1} → statement M
-blank-from-spec = tie.close (tie.spec invariant-loop decreases-loop (search rules) (search rules) (search rules) (search rules) (search rules) (search rules) (search rules))
+pub blank_from_spec : {M : Type 1} → statement M
+blank_from_spec = tie.close (tie.spec invariant-loop decreases-loop (search rules) (search rules) (search rules) (search rules) (search rules) (search rules) (search rules))

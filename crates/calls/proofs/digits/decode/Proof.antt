@@ -12,8 +12,8 @@ invariant-loop digits file₀ count₀ at₀ file count at = length file ≡ len
 abbrev decreases-loop : tie.decreases-loop
 decreases-loop digits file₀ count₀ at₀ file count at = length digits - at
 
-pub decode-spec : {M : Type 1} → statement M
-decode-spec =
+pub decode_spec : {M : Type 1} → statement M
+decode_spec =
     tie.close
     (tie.spec invariant-loop decreases-loop
     (search rules) (search rules) (search rules) (search rules) (search rules) (search rules)

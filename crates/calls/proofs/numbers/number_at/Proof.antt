@@ -11,8 +11,8 @@ invariant-loop line at value₀ i₀ value i = Unit {0}
 abbrev decreases-loop : tie.decreases-loop
 decreases-loop line at value₀ i₀ value i = length line - i
 
-pub number-at-spec : {M : Type 1} → statement M
-number-at-spec =
+pub number_at_spec : {M : Type 1} → statement M
+number_at_spec =
     tie.close
     (tie.spec invariant-loop decreases-loop
     (search rules) (search rules) (search rules) (search rules) (search rules) (search rules)

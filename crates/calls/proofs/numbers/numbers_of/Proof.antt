@@ -10,8 +10,8 @@ invariant-loop line values₀ at₀ count₀ values at count = Unit {0}
 abbrev decreases-loop : tie.decreases-loop
 decreases-loop line values₀ at₀ count₀ values at count = 4 - count
 
-pub numbers-of-spec : {M : Type 1} → statement M
-numbers-of-spec =
+pub numbers_of_spec : {M : Type 1} → statement M
+numbers_of_spec =
     tie.close
     (tie.spec invariant-loop decreases-loop
     (search rules) (search rules) (search rules) (search rules) (search rules) (search rules)

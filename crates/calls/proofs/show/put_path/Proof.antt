@@ -12,8 +12,8 @@ invariant-loop out₀ at path next₀ i₀ out next i = length out ≡ length ou
 abbrev decreases-loop : tie.decreases-loop
 decreases-loop out₀ at path next₀ i₀ out next i = 1024 - i
 
-pub put-path-spec : {M : Type 1} → statement M
-put-path-spec =
+pub put_path_spec : {M : Type 1} → statement M
+put_path_spec =
     tie.close
     (tie.spec invariant-loop decreases-loop
     (search rules) (search rules) (search rules) (search rules) (search rules) (search rules)

@@ -10,8 +10,8 @@ invariant-loop sum delays next₀ i₀ next i = Unit {0}
 abbrev decreases-loop : tie.decreases-loop
 decreases-loop sum delays next₀ i₀ next i = 128 - i
 
-pub sum-delays-spec : {M : Type 1} → statement M
-sum-delays-spec =
+pub sum_delays_spec : {M : Type 1} → statement M
+sum_delays_spec =
     tie.close
     (tie.spec invariant-loop decreases-loop
     (search rules) (search rules) (search rules) (search rules) (search rules) (search rules)

@@ -10,8 +10,8 @@ invariant-loop sum jobs next₀ i₀ next i = Unit {0}
 abbrev decreases-loop : tie.decreases-loop
 decreases-loop sum jobs next₀ i₀ next i = 24 - i
 
-pub sum-jobs-spec : {M : Type 1} → statement M
-sum-jobs-spec =
+pub sum_jobs_spec : {M : Type 1} → statement M
+sum_jobs_spec =
     tie.close
     (tie.spec invariant-loop decreases-loop
     (search rules) (search rules) (search rules) (search rules) (search rules) (search rules)

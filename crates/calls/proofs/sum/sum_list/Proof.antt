@@ -11,8 +11,8 @@ invariant-loop sum list next₀ i₀ next i = Unit {0}
 abbrev decreases-loop : tie.decreases-loop
 decreases-loop sum list next₀ i₀ next i = length list - i
 
-pub sum-list-spec : {M : Type 1} → statement M
-sum-list-spec =
+pub sum_list_spec : {M : Type 1} → statement M
+sum_list_spec =
     tie.close
     (tie.spec invariant-loop decreases-loop
     (search rules) (search rules) (search rules) (search rules) (search rules) (search rules)

@@ -10,8 +10,8 @@ invariant-loop sum path next₀ i₀ next i = Unit {0}
 abbrev decreases-loop : tie.decreases-loop
 decreases-loop sum path next₀ i₀ next i = 1024 - i
 
-pub sum-path-spec : {M : Type 1} → statement M
-sum-path-spec =
+pub sum_path_spec : {M : Type 1} → statement M
+sum_path_spec =
     tie.close
     (tie.spec invariant-loop decreases-loop
     (search rules) (search rules) (search rules) (search rules) (search rules) (search rules)

@@ -10,8 +10,8 @@ invariant-loop sum rests next₀ i₀ next i = Unit {0}
 abbrev decreases-loop : tie.decreases-loop
 decreases-loop sum rests next₀ i₀ next i = 16 - i
 
-pub sum-rests-spec : {M : Type 1} → statement M
-sum-rests-spec =
+pub sum_rests_spec : {M : Type 1} → statement M
+sum_rests_spec =
     tie.close
     (tie.spec invariant-loop decreases-loop
     (search rules) (search rules) (search rules) (search rules) (search rules) (search rules)

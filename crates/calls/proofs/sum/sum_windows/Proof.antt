@@ -10,8 +10,8 @@ invariant-loop sum windows next₀ i₀ next i = Unit {0}
 abbrev decreases-loop : tie.decreases-loop
 decreases-loop sum windows next₀ i₀ next i = 24 - i
 
-pub sum-windows-spec : {M : Type 1} → statement M
-sum-windows-spec =
+pub sum_windows_spec : {M : Type 1} → statement M
+sum_windows_spec =
     tie.close
     (tie.spec invariant-loop decreases-loop
     (search rules) (search rules) (search rules) (search rules) (search rules) (search rules)

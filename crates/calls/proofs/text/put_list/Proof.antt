@@ -12,8 +12,8 @@ invariant-loop out₀ at list next₀ i₀ out next i = length out ≡ length ou
 abbrev decreases-loop : tie.decreases-loop
 decreases-loop out₀ at list next₀ i₀ out next i = length list - i
 
-pub put-list-spec : {M : Type 1} → statement M
-put-list-spec =
+pub put_list_spec : {M : Type 1} → statement M
+put_list_spec =
     tie.close
     (tie.spec invariant-loop decreases-loop
     (search rules) (search rules) (search rules) (search rules) (search rules) (search rules)

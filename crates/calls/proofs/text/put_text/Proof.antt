@@ -12,8 +12,8 @@ invariant-loop out₀ at text next₀ i₀ out next i = length out ≡ length ou
 abbrev decreases-loop : tie.decreases-loop
 decreases-loop out₀ at text next₀ i₀ out next i = length text - i
 
-pub put-text-spec : {M : Type 1} → statement M
-put-text-spec =
+pub put_text_spec : {M : Type 1} → statement M
+put_text_spec =
     tie.close
     (tie.spec invariant-loop decreases-loop
     (search rules) (search rules) (search rules) (search rules) (search rules) (search rules)

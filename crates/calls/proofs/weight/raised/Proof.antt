@@ -16,5 +16,5 @@ cast-result-2 c = sum_casts _ c.ranges.weight
 returns : tie.Need-returns
 returns c = search rules
 
-pub raised-spec : {M : Type 1} → statement M
-raised-spec = tie.close (tie.spec cast-result add-result cast-result-2 returns)
+pub raised_spec : {M : Type 1} → statement M
+raised_spec = tie.close (tie.spec cast-result add-result cast-result-2 returns)

@@ -8,8 +8,8 @@ use Rattle.claims.proofs.ReadLaws.{head_none, head_other, head_place, head_editi
 use Rattle.claims.proofs.claim.read_head.Statement.{statement}
 use Rattle.claims.proofs.claim.read_head.Tie as tie
 
-pub read-head-spec : {M : Type 1} → statement M
-read-head-spec =
+pub read_head_spec : {M : Type 1} → statement M
+read_head_spec =
     tie.close
     (tie.spec
     (λ c κs. search rules)

@@ -8,8 +8,8 @@ use Rattle.claims.proofs.ReadLaws.{job_none, job_other, job_place, job_read}
 use Rattle.claims.proofs.claim.read_job.Statement.{statement}
 use Rattle.claims.proofs.claim.read_job.Tie as tie
 
-pub read-job-spec : {M : Type 1} → statement M
-read-job-spec =
+pub read_job_spec : {M : Type 1} → statement M
+read_job_spec =
     tie.close
     (tie.spec
     (λ c κs. search rules)

@@ -4,6 +4,6 @@ use Rattle.claims.specs.JobLines.{lines_told}
 use Rattle.claims.proofs.job_lines.broken.Statement.{statement}
 use Rattle.claims.proofs.job_lines.broken.Tie as tie
 
-pub broken-spec : {M : Type 1} → statement M
+pub broken_spec : {M : Type 1} → statement M
 unfolding lines_told
-broken-spec = tie.close (tie.spec (λ c. search rules))
+broken_spec = tie.close (tie.spec (λ c. search rules))

@@ -3,8 +3,8 @@ use borrow.Author.Rules.{rules}
 use Rattle.claims.proofs.job_lines.in_order.Statement.{statement}
 use Rattle.claims.proofs.job_lines.in_order.Tie as tie
 
-pub in-order-spec : {M : Type 1} → statement M
-in-order-spec =
+pub in_order_spec : {M : Type 1} → statement M
+in_order_spec =
     tie.close
     (tie.spec
     (λ c κs. search rules)

@@ -4,8 +4,8 @@ use borrow.Author.Tests.{eq-eqb, ne_eqb}
 use Rattle.claims.proofs.job_lines.names_jobs.Statement.{statement}
 use Rattle.claims.proofs.job_lines.names_jobs.Tie as tie
 
-pub names-jobs-spec : {M : Type 1} → statement M
-names-jobs-spec =
+pub names_jobs_spec : {M : Type 1} → statement M
+names_jobs_spec =
     tie.close
     (tie.spec
     (λ c. rw (ne_eqb _ _ c.if1.true))

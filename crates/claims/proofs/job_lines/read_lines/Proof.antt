@@ -15,8 +15,8 @@ invariant-loop text at starts₀ ordered₀ place₀ k₀ starts ordered place k
 abbrev decreases-loop : tie.decreases-loop
 decreases-loop text at starts₀ ordered₀ place₀ k₀ starts ordered place k = length text - place
 
-pub read-lines-spec : {M : Type 1} → statement M
-read-lines-spec =
+pub read_lines_spec : {M : Type 1} → statement M
+read_lines_spec =
     tie.close
     (tie.spec invariant-loop decreases-loop
     (λ c. read_start _ _ c.before.requires)

@@ -13,8 +13,8 @@ invariant-loop codes low count starts k₀ k = (k ≤ count) × (first_from code
 abbrev decreases-loop : tie.decreases-loop
 decreases-loop codes low count starts k₀ k = count - k
 
-pub first-met-spec : {M : Type 1} → statement M
-first-met-spec =
+pub first_met_spec : {M : Type 1} → statement M
+first_met_spec =
     tie.close
     (tie.spec invariant-loop decreases-loop
     -- none is met before low

@@ -34,8 +34,8 @@ add-result-2 c = search rules
 returns : tie.Need-returns
 returns c = code_met _ _ _ _ _ c.before.before.before.before.wide16.ensures.0 c.before.before.wide162.ensures.0 c.wide163.ensures.0
 
-pub is-met-spec : {M : Type 1} → statement M
-is-met-spec =
+pub is_met_spec : {M : Type 1} → statement M
+is_met_spec =
     tie.close
     (tie.spec
     wide16-requires

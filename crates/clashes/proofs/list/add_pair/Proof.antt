@@ -18,8 +18,8 @@ invariant-loop codes₀ count low end first base q others stop at₀ k₀ codes 
 abbrev decreases-loop : tie.decreases-loop
 decreases-loop codes₀ count low end first base q others stop at₀ k₀ codes at k = stop - k
 
-pub add-pair-spec : {M : Type 1} → statement M
-add-pair-spec =
+pub add_pair_spec : {M : Type 1} → statement M
+add_pair_spec =
     tie.close
     (tie.spec invariant-loop decreases-loop
     (λ c κs. search rules)

@@ -34,8 +34,8 @@ invariant-loop codes₀ batch n longest close count₀ i₀ codes count i =
 abbrev decreases-loop : tie.decreases-loop
 decreases-loop codes₀ batch n longest close count₀ i₀ codes count i = n - i
 
-pub list-clashes-spec : {M : Type 1} → statement M
-list-clashes-spec =
+pub list_clashes_spec : {M : Type 1} → statement M
+list_clashes_spec =
     tie.close
     (tie.spec invariant-loop2 decreases-loop2 invariant-loop decreases-loop
     (λ c κs. search rules)

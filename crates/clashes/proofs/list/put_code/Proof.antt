@@ -20,5 +20,5 @@ add-result c = search rules
 returns : tie.Need-returns
 returns c = ⊎_elim (λ w. put_in _ _ _ _ w.0.taken w.1) (λ w. put_out _ _ _ _ w.0.left w.1) c.if1.branch
 
-pub put-code-spec : {M : Type 1} → statement M
-put-code-spec = tie.close (tie.spec cast-codes mul-codes element-write-codes add-result returns)
+pub put_code_spec : {M : Type 1} → statement M
+put_code_spec = tie.close (tie.spec cast-codes mul-codes element-write-codes add-result returns)

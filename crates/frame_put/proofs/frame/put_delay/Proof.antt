@@ -41,8 +41,8 @@ returns c =
     let bytes = put_digits _ _ _ _ (omega arith) (omega arith) ends third.1 in
     (search rules, rw (← weight) (put_line _ _ _ (omega arith) (omega arith) bytes end.1))
 
-pub put-delay-spec : {M : Type 1} → statement M
-put-delay-spec =
+pub put_delay_spec : {M : Type 1} → statement M
+put_delay_spec =
     tie.close
     (tie.spec
     encode-requires

@@ -38,8 +38,8 @@ returns c =
     let bytes = put_digits _ _ _ _ (omega arith) (omega arith) latency fourth.1 in
     (search rules, put_line _ _ _ (omega arith) (omega arith) bytes end.1)
 
-pub put-head-spec : {M : Type 1} → statement M
-put-head-spec =
+pub put_head_spec : {M : Type 1} → statement M
+put_head_spec =
     tie.close
     (tie.spec
     put-pair-requires

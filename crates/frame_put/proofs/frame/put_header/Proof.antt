@@ -27,6 +27,6 @@ returns c =
     let bytes = put_digits _ _ _ _ (omega arith) first.0 first.1 second.1 in
     (search rules, put_line _ _ _ (omega arith) (omega arith) bytes end.1)
 
-pub put-header-spec : {M : Type 1} → statement M
-put-header-spec =
+pub put_header_spec : {M : Type 1} → statement M
+put_header_spec =
     tie.close (tie.spec put-pair-requires put-pair-requires-2 put-end-requires same_length returns)

@@ -28,6 +28,6 @@ returns c =
     let bytes = put_digits _ _ _ _ (omega arith) first.0 first.1 second.1 in
     (search rules, put_line _ _ _ (omega arith) (omega arith) bytes end.1)
 
-pub put-no-plan-spec : {M : Type 1} → statement M
-put-no-plan-spec =
+pub put_no_plan_spec : {M : Type 1} → statement M
+put_no_plan_spec =
     tie.close (tie.spec put-byte-requires put-four-requires put-end-requires same_length returns)

@@ -20,5 +20,5 @@ returns c =
     let second = c.before.before.put-byte2.ensures in
     (search rules, put_digits _ _ _ _ (omega arith) first.0 first.1 second.1)
 
-pub put-pair-spec : {M : Type 1} → statement M
-put-pair-spec = tie.close (tie.spec put-byte-requires put-byte-requires-2 same_length returns)
+pub put_pair_spec : {M : Type 1} → statement M
+put_pair_spec = tie.close (tie.spec put-byte-requires put-byte-requires-2 same_length returns)

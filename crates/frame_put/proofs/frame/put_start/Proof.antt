@@ -28,6 +28,6 @@ returns c =
     let bytes = put_digits _ _ _ _ (omega arith) first.0 first.1 second.1 in
     (search rules, put_line _ _ _ (omega arith) (omega arith) bytes end.1)
 
-pub put-start-spec : {M : Type 1} → statement M
-put-start-spec =
+pub put_start_spec : {M : Type 1} → statement M
+put_start_spec =
     tie.close (tie.spec put-pair-requires put-two-requires put-end-requires same_length returns)

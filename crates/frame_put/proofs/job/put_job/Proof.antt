@@ -32,6 +32,6 @@ returns c =
     let size = masks_length c.before.before.before.before.before.before.before.before.before.before.before.before.before.before.args.job in
     (search rules, put_line _ _ _ (omega arith) (omega arith) bytes end.1)
 
-pub put-job-spec : {M : Type 1} → statement M
-put-job-spec =
+pub put_job_spec : {M : Type 1} → statement M
+put_job_spec =
     tie.close (tie.spec cast-put-pair put-pair-requires put-masks-requires put-end-requires same_length returns)

@@ -57,8 +57,8 @@ returns c =
     let all = filled_all _ _ _ job.ticks _ c.before.loop.invariant.1 (omega arith) (masks_text job) in
     (omega (arith, all.0, masks_size job job.ticks, ap length (masks_text job)), all.1)
 
-pub put-masks-spec : {M : Type 1} → statement M
-put-masks-spec =
+pub put_masks_spec : {M : Type 1} → statement M
+put_masks_spec =
     tie.close
     (tie.spec
     invariant-loop

@@ -21,6 +21,6 @@ cast-result-3 c = held_cast _ c.before.ranges.w c.if1.false
 returns-2 : tie.Need-returns-2
 returns-2 c = held_unsigned _ c.before.ranges.w c.if1.false
 
-pub encode-spec : {M : Type 1} → statement M
-encode-spec =
+pub encode_spec : {M : Type 1} → statement M
+encode_spec =
     tie.close (tie.spec cast-result add-result cast-result-2 returns cast-result-3 returns-2)

@@ -7,9 +7,9 @@ use Rattle.frame_put.specs.Rest.{rest_as}
 use Rattle.frame_put.proofs.rest.put_rest.Statement.{statement}
 use Rattle.frame_put.proofs.rest.put_rest.Tie as tie
 
-pub put-rest-spec : {M : Type 1} → statement M
+pub put_rest_spec : {M : Type 1} → statement M
 unfolding rest_as rest_text
-put-rest-spec =
+put_rest_spec =
     tie.close
     (tie.spec
     (λ c κs. search rules)

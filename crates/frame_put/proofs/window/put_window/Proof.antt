@@ -8,9 +8,9 @@ use Rattle.frame_put.specs.Window.{window_as}
 use Rattle.frame_put.proofs.window.put_window.Statement.{statement}
 use Rattle.frame_put.proofs.window.put_window.Tie as tie
 
-pub put-window-spec : {M : Type 1} → statement M
+pub put_window_spec : {M : Type 1} → statement M
 unfolding window_as window_text two
-put-window-spec =
+put_window_spec =
     tie.close
     (tie.spec
     (λ c κs. search rules)

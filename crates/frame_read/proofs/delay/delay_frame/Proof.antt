@@ -54,8 +54,8 @@ returns-4 c =
     delay_read _ _ _ b.before.before.before.before.before.frame-is.ensures b.before.before.before.before.if1.false _ q _ c.before.before.before.jobs-ok.ensures c.before.before.if2.false _ c.before.weight-ok.ensures
     c.if3.false
 
-pub delay-frame-spec : {M : Type 1} → statement M
-delay-frame-spec =
+pub delay_frame_spec : {M : Type 1} → statement M
+delay_frame_spec =
     tie.close
     (tie.spec
     frame-is-requires

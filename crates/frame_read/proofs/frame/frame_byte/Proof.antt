@@ -16,5 +16,5 @@ byte-at-requires c κs = search rules
 returns : tie.Need-returns
 returns c = byte_is _ _ _ _ _ c.byte_at.ensures (search rules)
 
-pub frame-byte-spec : {M : Type 1} → statement M
-frame-byte-spec = tie.close (tie.spec mul-byte-at add-byte-at byte-at-requires returns)
+pub frame_byte_spec : {M : Type 1} → statement M
+frame_byte_spec = tie.close (tie.spec mul-byte-at add-byte-at byte-at-requires returns)

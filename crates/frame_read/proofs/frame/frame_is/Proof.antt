@@ -13,5 +13,5 @@ returns c = kind_right _ _ _ _ _ _ c.before.frame_byte.ensures c.if1.true
 returns-2 : tie.Need-returns-2
 returns-2 c = kind_wrong _ _ _ _ _ _ c.before.frame_byte.ensures c.if1.false
 
-pub frame-is-spec : {M : Type 1} → statement M
-frame-is-spec = tie.close (tie.spec frame-byte-requires returns returns-2)
+pub frame_is_spec : {M : Type 1} → statement M
+frame_is_spec = tie.close (tie.spec frame-byte-requires returns returns-2)

@@ -30,8 +30,8 @@ returns c =
     wide_is _ _ _ _ _ _ c.before.before.word.ensures.0 c.before.before.before.frame_byte.ensures c.word2.ensures.0
     c.before.frame-byte2.ensures
 
-pub frame-wide-spec : {M : Type 1} → statement M
-frame-wide-spec =
+pub frame_wide_spec : {M : Type 1} → statement M
+frame_wide_spec =
     tie.close
     (tie.spec
     frame-byte-requires

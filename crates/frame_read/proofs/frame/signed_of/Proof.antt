@@ -22,6 +22,6 @@ cast-result-3 c = small_fits _ c.if1.false c.before.ranges.v.fits
 returns-2 : tie.Need-returns-2
 returns-2 c = signed_high _ c.if1.false c.before.ranges.v.fits
 
-pub signed-of-spec : {M : Type 1} → statement M
-signed-of-spec =
+pub signed_of_spec : {M : Type 1} → statement M
+signed_of_spec =
     tie.close (tie.spec cast-result returns cast-result-2 sub-result cast-result-3 returns-2)

@@ -49,8 +49,8 @@ returns-4 c =
     header_read _ _ b.before.before.before.before.frame-is.ensures b.before.before.before.if1.false _ b.before.before.frame_byte.ensures _ b.before.edition-ok.ensures b.if2.false _ _ c.before.before.before.frame-byte2.ensures
     c.before.before.frame-byte3.ensures _ c.before.counts-ok.ensures c.if3.false
 
-pub header-frame-spec : {M : Type 1} → statement M
-header-frame-spec =
+pub header_frame_spec : {M : Type 1} → statement M
+header_frame_spec =
     tie.close
     (tie.spec
     frame-is-requires

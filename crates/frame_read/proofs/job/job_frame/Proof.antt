@@ -77,8 +77,8 @@ returns-4 c =
     job_read _ _ _ b.before.before.frame_byte.ensures (ap (λ (k : ℕ). 2 + 2 * k) b.before.wide.ensures.0) _ b.frame-is.ensures d.before.if2.false
     _ d.word.ensures.0 _ c.before.before.before.ticks-ok.ensures c.before.before.if3.false _ c.masks-of.ensures
 
-pub job-frame-spec : {M : Type 1} → statement M
-job-frame-spec =
+pub job_frame_spec : {M : Type 1} → statement M
+job_frame_spec =
     tie.close
     (tie.spec
     refused-requires

@@ -50,8 +50,8 @@ returns c =
     masks_all (frame_at c.before.before.before.args.file.now c.before.before.before.args.at c.before.before.before.args.size) _ _ _ (frame_length _ _ _ ∙ c.before.before.before.requires.1.0) c.loop-test.false
     c.before.loop.invariant.1
 
-pub masks-of-spec : {M : Type 1} → statement M
-masks-of-spec =
+pub masks_of_spec : {M : Type 1} → statement M
+masks_of_spec =
     tie.close
     (tie.spec
     invariant-loop

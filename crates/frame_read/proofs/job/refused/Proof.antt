@@ -10,5 +10,5 @@ returns : tie.Need-returns
 unfolding job_told answer_of value_of blank_job
 returns c = refl
 
-pub refused-spec : {M : Type 1} → statement M
-refused-spec = tie.close (tie.spec returns)
+pub refused_spec : {M : Type 1} → statement M
+refused_spec = tie.close (tie.spec returns)

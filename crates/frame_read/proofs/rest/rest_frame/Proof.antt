@@ -14,9 +14,9 @@ use Rattle.frame_read.proofs.NumberedLaws.{frame_kind, frame_number, frame_own, 
 use Rattle.frame_read.proofs.rest.rest_frame.Statement.{statement}
 use Rattle.frame_read.proofs.rest.rest_frame.Tie as tie
 
-pub rest-frame-spec : {M : Type 1} → statement M
+pub rest_frame_spec : {M : Type 1} → statement M
 unfolding rest station_rises rest_told
-rest-frame-spec =
+rest_frame_spec =
     tie.close
     (tie.spec
     (λ c κs. search rules)

@@ -12,9 +12,9 @@ use Rattle.frame_read.proofs.NumberedLaws.{frame_kind, frame_number, frame_own, 
 use Rattle.frame_read.proofs.window.window_frame.Statement.{statement}
 use Rattle.frame_read.proofs.window.window_frame.Tie as tie
 
-pub window-frame-spec : {M : Type 1} → statement M
+pub window_frame_spec : {M : Type 1} → statement M
 unfolding window job_rises window_told window_place
-window-frame-spec =
+window_frame_spec =
     tie.close
     (tie.spec
     (λ c κs. search rules)

@@ -6,6 +6,6 @@ use Rattle.further_put.specs.Lined.{size_if}
 use Rattle.further_put.proofs.lined.lined_size.Statement.{statement}
 use Rattle.further_put.proofs.lined.lined_size.Tie as tie
 
-pub lined-size-spec : {M : Type 1} → statement M
+pub lined_size_spec : {M : Type 1} → statement M
 unfolding size_if if◌then◌else◌
-lined-size-spec = tie.close (tie.spec (λ c. (simp (ne_eqb _ _ c.if1.true), omega arith)) (λ c. (simp (eq-eqb _ _ c.if1.false), omega arith)))
+lined_size_spec = tie.close (tie.spec (λ c. (simp (ne_eqb _ _ c.if1.true), omega arith)) (λ c. (simp (eq-eqb _ _ c.if1.false), omega arith)))

@@ -12,9 +12,9 @@ use Rattle.further_put.proofs.Texts.{line_some, line_none}
 use Rattle.further_put.proofs.rests.put_rested.Statement.{statement}
 use Rattle.further_put.proofs.rests.put_rested.Tie as tie
 
-pub put-rested-spec : {M : Type 1} → statement M
+pub put_rested_spec : {M : Type 1} → statement M
 unfolding rest_piece
-put-rested-spec =
+put_rested_spec =
     tie.close
     (tie.spec
     -- no line

@@ -15,8 +15,8 @@ invariant-loop buffer₀ at rests next₀ s₀ buffer next s = (s ≤ 16) × Fil
 abbrev decreases-loop : tie.decreases-loop
 decreases-loop buffer₀ at rests next₀ s₀ buffer next s = 16 - s
 
-pub put-rests-spec : {M : Type 1} → statement M
-put-rests-spec =
+pub put_rests_spec : {M : Type 1} → statement M
+put_rests_spec =
     tie.close
     (tie.spec
     invariant-loop

@@ -15,8 +15,8 @@ invariant-loop rests size₀ s₀ size s = (s ≤ 16) × Sized (station_piece re
 abbrev decreases-loop : tie.decreases-loop
 decreases-loop rests size₀ s₀ size s = 16 - s
 
-pub rests-length-spec : {M : Type 1} → statement M
-rests-length-spec =
+pub rests_length_spec : {M : Type 1} → statement M
+rests_length_spec =
     tie.close
     (tie.spec
     invariant-loop

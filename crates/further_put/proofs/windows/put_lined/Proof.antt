@@ -12,9 +12,9 @@ use Rattle.further_put.proofs.Texts.{line_some, line_none}
 use Rattle.further_put.proofs.windows.put_lined.Statement.{statement}
 use Rattle.further_put.proofs.windows.put_lined.Tie as tie
 
-pub put-lined-spec : {M : Type 1} → statement M
+pub put_lined_spec : {M : Type 1} → statement M
 unfolding window_piece
-put-lined-spec =
+put_lined_spec =
     tie.close
     (tie.spec
     -- no line

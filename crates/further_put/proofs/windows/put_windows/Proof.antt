@@ -16,8 +16,8 @@ invariant-loop buffer₀ at batch n next₀ i₀ buffer next i = (i ≤ n) × Fi
 abbrev decreases-loop : tie.decreases-loop
 decreases-loop buffer₀ at batch n next₀ i₀ buffer next i = n - i
 
-pub put-windows-spec : {M : Type 1} → statement M
-put-windows-spec =
+pub put_windows_spec : {M : Type 1} → statement M
+put_windows_spec =
     tie.close
     (tie.spec
     invariant-loop

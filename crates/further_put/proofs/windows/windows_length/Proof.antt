@@ -15,8 +15,8 @@ invariant-loop batch n size₀ i₀ size i = (i ≤ n) × Sized (line_piece batc
 abbrev decreases-loop : tie.decreases-loop
 decreases-loop batch n size₀ i₀ size i = n - i
 
-pub windows-length-spec : {M : Type 1} → statement M
-windows-length-spec =
+pub windows_length_spec : {M : Type 1} → statement M
+windows_length_spec =
     tie.close
     (tie.spec
     invariant-loop

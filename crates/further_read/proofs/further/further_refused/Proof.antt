@@ -11,6 +11,6 @@ use Rattle.further_read.specs.Further.{further_told}
 use Rattle.further_read.proofs.further.further_refused.Statement.{statement}
 use Rattle.further_read.proofs.further.further_refused.Tie as tie
 
-pub further-refused-spec : {M : Type 1} → statement M
+pub further_refused_spec : {M : Type 1} → statement M
 unfolding further_told answer_of value_of no_further windows_of window_in rests_of rest_in place_in blank_window count
-further-refused-spec = tie.close (tie.spec (λ c. refl))
+further_refused_spec = tie.close (tie.spec (λ c. refl))

@@ -6,8 +6,8 @@ use Rattle.further_read.proofs.FurtherLaws.{left_none, left_broken, left_line}
 use Rattle.further_read.proofs.further.nothing_left.Statement.{statement}
 use Rattle.further_read.proofs.further.nothing_left.Tie as tie
 
-pub nothing-left-spec : {M : Type 1} → statement M
-nothing-left-spec =
+pub nothing_left_spec : {M : Type 1} → statement M
+nothing_left_spec =
     tie.close
     (tie.spec
     (λ c. let s = c.before.before.args in left_none s.file.now s.at (omega arith))

@@ -5,8 +5,8 @@ use Rattle.further_read.proofs.FurtherLaws.{windows_refused, windows_at, rests_r
 use Rattle.further_read.proofs.further.read_further.Statement.{statement}
 use Rattle.further_read.proofs.further.read_further.Tie as tie
 
-pub read-further-spec : {M : Type 1} → statement M
-read-further-spec =
+pub read_further_spec : {M : Type 1} → statement M
+read_further_spec =
     tie.close
     (tie.spec
     (λ c κs. search rules)

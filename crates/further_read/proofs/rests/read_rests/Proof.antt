@@ -21,9 +21,9 @@ invariant-loop file at rests₀ place₀ low₀ rests place low = (place ≤ len
 abbrev decreases-loop : tie.decreases-loop
 decreases-loop file at rests₀ place₀ low₀ rests place low = length file - place
 
-pub read-rests-spec : {M : Type 1} → statement M
+pub read_rests_spec : {M : Type 1} → statement M
 unfolding read_rests rests_told rests_of rest_in place_in count
-read-rests-spec =
+read_rests_spec =
     tie.close
     (tie.spec
     invariant-loop

@@ -8,6 +8,6 @@ use Rattle.further_read.specs.Rests.{rests_told}
 use Rattle.further_read.proofs.rests.refused.Statement.{statement}
 use Rattle.further_read.proofs.rests.refused.Tie as tie
 
-pub refused-spec : {M : Type 1} → statement M
+pub refused_spec : {M : Type 1} → statement M
 unfolding rests_told next_of value_of rests_of rest_in place_in count
-refused-spec = tie.close (tie.spec (λ c. refl))
+refused_spec = tie.close (tie.spec (λ c. refl))

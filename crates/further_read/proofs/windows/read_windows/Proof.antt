@@ -22,9 +22,9 @@ invariant-loop file at n windows₀ place₀ low₀ windows place low = (place �
 abbrev decreases-loop : tie.decreases-loop
 decreases-loop file at n windows₀ place₀ low₀ windows place low = length file - place
 
-pub read-windows-spec : {M : Type 1} → statement M
+pub read_windows_spec : {M : Type 1} → statement M
 unfolding read_windows windows_told windows_of window_in place_in blank_window count
-read-windows-spec =
+read_windows_spec =
     tie.close
     (tie.spec
     invariant-loop

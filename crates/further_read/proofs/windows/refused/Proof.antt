@@ -9,6 +9,6 @@ use Rattle.further_read.specs.Windows.{windows_told}
 use Rattle.further_read.proofs.windows.refused.Statement.{statement}
 use Rattle.further_read.proofs.windows.refused.Tie as tie
 
-pub refused-spec : {M : Type 1} → statement M
+pub refused_spec : {M : Type 1} → statement M
 unfolding windows_told next_of value_of windows_of window_in place_in blank_window count
-refused-spec = tie.close (tie.spec (λ c. refl))
+refused_spec = tie.close (tie.spec (λ c. refl))

@@ -5,8 +5,8 @@ use Rattle.judging.proofs.AnswerLaws.{file_refused, file_fits, file_judged}
 use Rattle.judging.proofs.judge.judge_file.Statement.{statement}
 use Rattle.judging.proofs.judge.judge_file.Tie as tie
 
-pub judge-file-spec : {M : Type 1} → statement M
-judge-file-spec =
+pub judge_file_spec : {M : Type 1} → statement M
+judge_file_spec =
     tie.close
     (tie.spec
     (λ c κs. search rules)

@@ -5,8 +5,8 @@ use Rattle.judging.proofs.AnswerLaws.{no_head, no_lines, no_jobs, no_plan_lem, r
 use Rattle.judging.proofs.judge.judge_text.Statement.{statement}
 use Rattle.judging.proofs.judge.judge_text.Tie as tie
 
-pub judge-text-spec : {M : Type 1} → statement M
-judge-text-spec =
+pub judge_text_spec : {M : Type 1} → statement M
+judge_text_spec =
     tie.close
     (tie.spec
     (λ c κs. search rules)

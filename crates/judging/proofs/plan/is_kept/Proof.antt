@@ -3,8 +3,8 @@ use borrow.Author.Rules.{rules}
 use Rattle.judging.proofs.plan.is_kept.Statement.{statement}
 use Rattle.judging.proofs.plan.is_kept.Tie as tie
 
-pub is-kept-spec : {M : Type 1} → statement M
-is-kept-spec =
+pub is_kept_spec : {M : Type 1} → statement M
+is_kept_spec =
     tie.close
     (tie.spec
     (λ c κs. search rules)

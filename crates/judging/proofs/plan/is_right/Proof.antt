@@ -6,8 +6,8 @@ use Rattle.model.proofs.BoolLaws.{and_then, and_else}
 use Rattle.judging.proofs.plan.is_right.Statement.{statement}
 use Rattle.judging.proofs.plan.is_right.Tie as tie
 
-pub is-right-spec : {M : Type 1} → statement M
-is-right-spec =
+pub is_right_spec : {M : Type 1} → statement M
+is_right_spec =
     tie.close
     (tie.spec
     (λ c κs. c.requires)

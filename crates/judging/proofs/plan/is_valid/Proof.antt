@@ -3,8 +3,8 @@ use Rattle.judging.proofs.PlanLaws.{valid_delays, valid_ends, valid_clashes}
 use Rattle.judging.proofs.plan.is_valid.Statement.{statement}
 use Rattle.judging.proofs.plan.is_valid.Tie as tie
 
-pub is-valid-spec : {M : Type 1} → statement M
-is-valid-spec =
+pub is_valid_spec : {M : Type 1} → statement M
+is_valid_spec =
     tie.close
     (tie.spec
     (λ c κs. c.requires.0)

@@ -16,9 +16,9 @@ invariant-loop starts m from to code k₀ k = all_from (kept_test starts from to
 abbrev decreases-loop : tie.decreases-loop
 decreases-loop starts m from to code k₀ k = m - k
 
-pub keeps-delays-spec : {M : Type 1} → statement M
+pub keeps_delays_spec : {M : Type 1} → statement M
 unfolding kept_test
-keeps-delays-spec =
+keeps_delays_spec =
     tie.close
     (tie.spec invariant-loop decreases-loop
     (λ c κs. search rules)

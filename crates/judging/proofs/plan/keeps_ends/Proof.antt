@@ -16,8 +16,8 @@ invariant-loop starts batch n i₀ i = (n ≡ batch.n) × ((length batch.windows
 abbrev decreases-loop : tie.decreases-loop
 decreases-loop starts batch n i₀ i = n - i
 
-pub keeps-ends-spec : {M : Type 1} → statement M
-keeps-ends-spec =
+pub keeps_ends_spec : {M : Type 1} → statement M
+keeps_ends_spec =
     tie.close
     (tie.spec invariant-loop decreases-loop
     (λ c κs. search rules)

@@ -16,8 +16,8 @@ invariant-loop starts n stays latest₀ i₀ latest i = (i ≤ n) × (latest ≡
 abbrev decreases-loop : tie.decreases-loop
 decreases-loop starts n stays latest₀ i₀ latest i = n - i
 
-pub latency-of-spec : {M : Type 1} → statement M
-latency-of-spec =
+pub latency_of_spec : {M : Type 1} → statement M
+latency_of_spec =
     tie.close
     (tie.spec invariant-loop decreases-loop
     (λ c κs. search rules)

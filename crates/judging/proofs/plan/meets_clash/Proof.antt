@@ -6,8 +6,8 @@ use Rattle.judging.proofs.PlanLaws.{clashes_fit, clash_met, none_met}
 use Rattle.judging.proofs.plan.meets_clash.Statement.{statement}
 use Rattle.judging.proofs.plan.meets_clash.Tie as tie
 
-pub meets-clash-spec : {M : Type 1} → statement M
-meets-clash-spec =
+pub meets_clash_spec : {M : Type 1} → statement M
+meets_clash_spec =
     tie.close
     (tie.spec
     (λ c κs. (within_tabled _ c.before.requires.0, refl))

@@ -53,8 +53,8 @@ loop-again c =
 returns-2 : tie.Need-returns-2 invariant-loop decreases-loop
 returns-2 c = dropped_all _ _ c.before.before.requires _ _ c.before.loop.invariant (omega arith)
 
-pub go-back-spec : {M : Type 1} → statement M
-go-back-spec =
+pub go_back_spec : {M : Type 1} → statement M
+go_back_spec =
     tie.close
     (tie.spec
     invariant-loop

@@ -7,8 +7,8 @@ use Rattle.node.proofs.RowsLaws.{begun_none, begun_missed, begun_raised}
 use Rattle.node.proofs.rows.begin.Statement.{statement}
 use Rattle.node.proofs.rows.begin.Tie as tie
 
-pub begin-spec : {M : Type 1} → statement M
-begin-spec =
+pub begin_spec : {M : Type 1} → statement M
+begin_spec =
     tie.close
     (tie.spec
     (λ c. begun_none _ _ _ _ _ _ _ _ _ _ c.if1.true)

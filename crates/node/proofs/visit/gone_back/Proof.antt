@@ -7,8 +7,8 @@ use Rattle.node.proofs.NodeLaws.{returned_ended, returned_on, returned_named}
 use Rattle.node.proofs.visit.gone_back.Statement.{statement}
 use Rattle.node.proofs.visit.gone_back.Tie as tie
 
-pub gone-back-spec : {M : Type 1} → statement M
-gone-back-spec =
+pub gone_back_spec : {M : Type 1} → statement M
+gone_back_spec =
     tie.close
     (tie.spec
     (λ c κs. c.before.requires.0.0)

@@ -7,8 +7,8 @@ use Rattle.node.proofs.WorksLaws.{counts, small_stays, bound_small, delays_place
 use Rattle.node.proofs.visit.reach.Statement.{statement}
 use Rattle.node.proofs.visit.reach.Tie as tie
 
-pub reach-spec : {M : Type 1} → statement M
-reach-spec =
+pub reach_spec : {M : Type 1} → statement M
+reach_spec =
     tie.close
     (tie.spec
     (λ c κs. search rules)

@@ -8,8 +8,8 @@ use Rattle.node.proofs.VisitLaws.{unmet_asks, met_asks, stands_back, visit_best,
 use Rattle.node.proofs.visit.visit.Statement.{statement}
 use Rattle.node.proofs.visit.visit.Tie as tie
 
-pub visit-spec : {M : Type 1} → statement M
-visit-spec =
+pub visit_spec : {M : Type 1} → statement M
+visit_spec =
     tie.close
     (tie.spec
     (λ c κs. (c.before.before.before.before.before.before.before.before.before.before.before.requires, refl))

@@ -15,8 +15,8 @@ invariant-loop sizes from to code stays earliest latest codes pair held end turn
 abbrev decreases-loop : tie.decreases-loop
 decreases-loop sizes from to code stays earliest latest codes pair held end turns₀ tail₀ head₀ gap₀ rows₀ tags₀ latencies₀ walk₀ tally₀ turns tail head gap rows tags latencies walk tally = tally.left
 
-pub visit-nodes-spec : {M : Type 1} → statement M
-visit-nodes-spec =
+pub visit_nodes_spec : {M : Type 1} → statement M
+visit_nodes_spec =
     tie.close
     (tie.spec invariant-loop decreases-loop
     (λ c. (search rules, λ b w. (w, refl)))

@@ -4,8 +4,8 @@ use Rattle.opening.proofs.WithinLaws.{within_tabled, few_is}
 use Rattle.opening.proofs.few.few_clashes.Statement.{statement}
 use Rattle.opening.proofs.few.few_clashes.Tie as tie
 
-pub few-clashes-spec : {M : Type 1} → statement M
-few-clashes-spec =
+pub few_clashes_spec : {M : Type 1} → statement M
+few_clashes_spec =
     tie.close
     (tie.spec
     (λ c κs. (within_tabled _ c.before.requires, refl))

@@ -51,8 +51,8 @@ returns-4 c =
     open_fresh _ _ b.before.before.before.before.read-batch.ensures b.before.before.enum_told.given.1 _ b.few-clashes.ensures c.before.before.before.if1.false _ c.before.before.delays-met.ensures
     c.before.if2.false _ c.fresh.ensures
 
-pub open-file-spec : {M : Type 1} → statement M
-open-file-spec =
+pub open_file_spec : {M : Type 1} → statement M
+open_file_spec =
     tie.close
     (tie.spec
     read-batch-requires

@@ -19,5 +19,5 @@ unfolding opened_as blank_search
 returns c =
     ap (λ (s : Search). record { answer = Refused c.before.before.args.number; search = s }) (c.fresh.ensures ∙ ap fresh_search c.before.blank-batch.ensures)
 
-pub refused-spec : {M : Type 1} → statement M
-refused-spec = tie.close (tie.spec blank-batch-requires fresh-requires returns)
+pub refused_spec : {M : Type 1} → statement M
+refused_spec = tie.close (tie.spec blank-batch-requires fresh-requires returns)

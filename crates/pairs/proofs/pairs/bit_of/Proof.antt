@@ -8,9 +8,9 @@ use Rattle.pairs.specs.Pairs.{bit_of}
 use Rattle.pairs.proofs.pairs.bit_of.Statement.{statement}
 use Rattle.pairs.proofs.pairs.bit_of.Tie as tie
 
-pub bit-of-spec : {M : Type 1} → statement M
+pub bit_of_spec : {M : Type 1} → statement M
 unfolding bit_of if◌then◌else◌
-bit-of-spec =
+bit_of_spec =
     tie.close
     (tie.spec
     (λ c. let e : c.before.args.later - c.before.args.earlier ≡ 0 = omega arith in rw e)

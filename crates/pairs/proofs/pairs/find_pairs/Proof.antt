@@ -26,8 +26,8 @@ opened c =
     (λ w. open_same _ _ _ _ _ _ _ _ g j w.0.left w.1 w.2 w.3 w.4)
     c.if1.branch
 
-pub find-pairs-spec : {M : Type 1} → statement M
-find-pairs-spec =
+pub find_pairs_spec : {M : Type 1} → statement M
+find_pairs_spec =
     tie.close
     (tie.spec invariant-loop decreases-loop
     (λ c. (search rules, pairing_none _ _ _ _ c.requires.1.1.1))

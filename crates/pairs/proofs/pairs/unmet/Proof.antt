@@ -12,8 +12,8 @@ invariant-loop pair held end pairs starts low₀ q₀ low q = (q ≤ pairs) × P
 abbrev decreases-loop : tie.decreases-loop
 decreases-loop pair held end pairs starts low₀ q₀ low q = pairs - q
 
-pub unmet-spec : {M : Type 1} → statement M
-unmet-spec =
+pub unmet_spec : {M : Type 1} → statement M
+unmet_spec =
     tie.close
     (tie.spec invariant-loop decreases-loop
     (λ c. (search rules, passed_none _ _ _ _ _))

@@ -28,8 +28,8 @@ same-length-2 c = search rules
 returns-2 : tie.Need-returns-2
 returns-2 c = wrote_nothing _ _ c.before.before.before.before.before.before.before.before.before.before.before.before.requires _ _ c.before.before.before.before.before.before.before.before.before.write-plan.ensures _ c.before.before.before.before.before.written2.given.1 _ _ c.before.before.refusal.ensures
 
-pub plan-lines-spec : {M : Type 1} → statement M
-plan-lines-spec =
+pub plan_lines_spec : {M : Type 1} → statement M
+plan_lines_spec =
     tie.close
     (tie.spec
     write-plan-requires

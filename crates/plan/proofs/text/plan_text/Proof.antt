@@ -31,8 +31,8 @@ same-length-2 c = search rules
 returns-2 : tie.Need-returns-2
 returns-2 c = text_closed _ _ c.before.before.before.before.before.before.before.before.open.ensures _ c.before.before.before.before.before.answer.given.1 _ _ _ c.before.before.refusal.ensures
 
-pub plan-text-spec : {M : Type 1} → statement M
-plan-text-spec =
+pub plan_text_spec : {M : Type 1} → statement M
+plan_text_spec =
     tie.close
     (tie.spec
     open-requires

@@ -19,6 +19,6 @@ same_length c = search rules
 returns : tie.Need-returns
 returns c = refusal_put _ _ _ _ _ _ _ _ c.before.before.before.before.before.before.before.before.before.before.before.before.before.requires c.before.before.before.before.before.before.before.before.before.before.put_byte.ensures c.before.before.before.before.before.before.put-byte2.ensures c.before.before.put-end.ensures
 
-pub refusal-spec : {M : Type 1} → statement M
-refusal-spec =
+pub refusal_spec : {M : Type 1} → statement M
+refusal_spec =
     tie.close (tie.spec put-byte-requires put-byte-requires-2 put-end-requires same_length returns)

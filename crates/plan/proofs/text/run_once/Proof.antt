@@ -16,5 +16,5 @@ run-requires c κs = search rules
 returns : tie.Need-returns
 returns c = ap (λ (x : Ran × List ℕ). x.0) c.before.run.ensures
 
-pub run-once-spec : {M : Type 1} → statement M
-run-once-spec = tie.close (tie.spec slice-aggregate-run run-requires returns)
+pub run_once_spec : {M : Type 1} → statement M
+run_once_spec = tie.close (tie.spec slice-aggregate-run run-requires returns)

@@ -79,8 +79,8 @@ returns-3 c =
     let turn = c.before.before.before.before.before in
     no_runs _ _ _ turn.loop.invariant.1.1 _ _ turn.loop.invariant.1.0 (omega arith) _ _ c.before.before.refusal2.ensures
 
-pub searched-spec : {M : Type 1} → statement M
-searched-spec =
+pub searched_spec : {M : Type 1} → statement M
+searched_spec =
     tie.close
     (tie.spec
     invariant-loop

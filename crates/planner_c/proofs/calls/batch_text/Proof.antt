@@ -22,7 +22,7 @@ returns c =
     let w = c.before.before.before in
     record_written batch_text _ _ _ _ _ _ w.before.before.search-in.ensures w.write-batch.ensures c.text_of.ensures
 
-pub batch-text-spec : {M : Type 1} → statement M
-batch-text-spec =
+pub batch_text_spec : {M : Type 1} → statement M
+batch_text_spec =
     tie.close
     (tie.spec search-in-requires write-batch-requires text-of-requires same_length returns)

@@ -16,5 +16,5 @@ record-opened-requires c κs = search rules
 returns : tie.Need-returns
 returns c = record_opened_lem _ _ _ _ _ c.before.before.before.open.ensures c.before.number_of_lem.ensures c.record_opened_lem.ensures
 
-pub open-record-spec : {M : Type 1} → statement M
-open-record-spec = tie.close (tie.spec open-requires number-of-requires record-opened-requires returns)
+pub open_record_spec : {M : Type 1} → statement M
+open_record_spec = tie.close (tie.spec open-requires number-of-requires record-opened-requires returns)

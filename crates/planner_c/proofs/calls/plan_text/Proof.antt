@@ -22,7 +22,7 @@ returns c =
     let w = c.before.before.before in
     record_written plan_text _ _ _ _ _ _ w.before.before.search-in.ensures w.write-plan.ensures c.text_of.ensures
 
-pub plan-text-spec : {M : Type 1} → statement M
-plan-text-spec =
+pub plan_text_spec : {M : Type 1} → statement M
+plan_text_spec =
     tie.close
     (tie.spec search-in-requires write-plan-requires text-of-requires same_length returns)

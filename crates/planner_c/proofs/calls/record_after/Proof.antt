@@ -35,8 +35,8 @@ returns-4 : tie.Need-returns-4
 unfolding record_after
 returns-4 c = rw c.enum-told4.given.1
 
-pub record-after-spec : {M : Type 1} → statement M
-record-after-spec =
+pub record_after_spec : {M : Type 1} → statement M
+record_after_spec =
     tie.close
     (tie.spec
     record-of-requires

@@ -21,5 +21,5 @@ returns-2 : tie.Need-returns-2
 unfolding record_opened
 returns-2 c = rw c.enum-told2.given.1
 
-pub record-opened-spec : {M : Type 1} → statement M
-record-opened-spec = tie.close (tie.spec record-of-requires enum_told enum-told-2 returns returns-2)
+pub record_opened_spec : {M : Type 1} → statement M
+record_opened_spec = tie.close (tie.spec record-of-requires enum_told enum-told-2 returns returns-2)

@@ -24,8 +24,8 @@ returns c =
     let r = c.before.before.before.before.before in
     record_ran _ _ _ _ _ _ _ _ r.before.before.search-in.ensures r.run.ensures c.before.reply-of.ensures c.record-after.ensures
 
-pub run-record-spec : {M : Type 1} → statement M
-run-record-spec =
+pub run_record_spec : {M : Type 1} → statement M
+run_record_spec =
     tie.close
     (tie.spec
     search-in-requires

@@ -13,5 +13,5 @@ returns-2 : tie.Need-returns-2
 unfolding best_in if◌then◌else◌
 returns-2 c = simp (ne_eqb _ _ c.if1.false)
 
-pub best-in-spec : {M : Type 1} → statement M
-best-in-spec = tie.close (tie.spec returns returns-2)
+pub best_in_spec : {M : Type 1} → statement M
+best_in_spec = tie.close (tie.spec returns returns-2)

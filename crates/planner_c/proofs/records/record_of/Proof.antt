@@ -17,6 +17,6 @@ returns : tie.Need-returns
 unfolding record_of
 returns c = cc (c.before.before.latency-of.ensures, c.before.found_of.ensures, c.flag-of.ensures)
 
-pub record-of-spec : {M : Type 1} → statement M
-record-of-spec =
+pub record_of_spec : {M : Type 1} → statement M
+record_of_spec =
     tie.close (tie.spec latency-of-requires found-of-requires flag-of-requires returns)

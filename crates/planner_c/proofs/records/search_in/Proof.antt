@@ -11,5 +11,5 @@ returns : tie.Need-returns
 unfolding search_in
 returns c = cc c.before.best-in.ensures
 
-pub search-in-spec : {M : Type 1} → statement M
-search-in-spec = tie.close (tie.spec best-in-requires returns)
+pub search_in_spec : {M : Type 1} → statement M
+search_in_spec = tie.close (tie.spec best-in-requires returns)

@@ -5,9 +5,9 @@ use Rattle.planner_c.specs.Replies.{judge_number}
 use Rattle.planner_c.proofs.replies.judge_number.Statement.{statement}
 use Rattle.planner_c.proofs.replies.judge_number.Tie as tie
 
-pub judge-number-spec : {M : Type 1} → statement M
+pub judge_number_spec : {M : Type 1} → statement M
 unfolding judge_number
-judge-number-spec =
+judge_number_spec =
     tie.close
     (tie.spec
     (λ c. search rules)

@@ -19,5 +19,5 @@ returns-2 : tie.Need-returns-2
 unfolding number_of
 returns-2 c = sym (ap number_of c.before.answer.given.1)
 
-pub number-of-spec : {M : Type 1} → statement M
-number-of-spec = tie.close (tie.spec enum_told enum-known-answer returns returns-2)
+pub number_of_spec : {M : Type 1} → statement M
+number_of_spec = tie.close (tie.spec enum_told enum-known-answer returns returns-2)

@@ -33,8 +33,8 @@ returns-4 : tie.Need-returns-4
 unfolding reply_of
 returns-4 c = sym (ap reply_of c.before.answer4.given.1)
 
-pub reply-of-spec : {M : Type 1} → statement M
-reply-of-spec =
+pub reply_of_spec : {M : Type 1} → statement M
+reply_of_spec =
     tie.close
     (tie.spec
     enum-known-answer

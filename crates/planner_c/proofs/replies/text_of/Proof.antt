@@ -19,5 +19,5 @@ returns-2 : tie.Need-returns-2
 unfolding text_of
 returns-2 c = sym (ap text_of c.before.answer2.given.1)
 
-pub text-of-spec : {M : Type 1} → statement M
-text-of-spec = tie.close (tie.spec enum-known-answer enum-known-answer-2 returns returns-2)
+pub text_of_spec : {M : Type 1} → statement M
+text_of_spec = tie.close (tie.spec enum-known-answer enum-known-answer-2 returns returns-2)

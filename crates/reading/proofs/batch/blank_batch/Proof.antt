@@ -13,5 +13,5 @@ returns : tie.Need-returns
 unfolding batch_of pad blank_job blank_delay no_further windows_of window_in rests_of rest_in place_in blank_window count
 returns c = refl
 
-pub blank-batch-spec : {M : Type 1} → statement M
-blank-batch-spec = tie.close (tie.spec returns)
+pub blank_batch_spec : {M : Type 1} → statement M
+blank_batch_spec = tie.close (tie.spec returns)

@@ -27,8 +27,8 @@ returns c = file_refused _ _ _ (first_refused _ _ _ c.before.before.before.befor
 returns-2 : tie.Need-returns-2
 returns-2 c = file_body _ _ _ _ _ _ (first_counts _ _ _ _ _ _ c.before.before.before.before.read-header.ensures c.before.before.header2.given.1) c.read-body.ensures
 
-pub read-batch-spec : {M : Type 1} → statement M
-read-batch-spec =
+pub read_batch_spec : {M : Type 1} → statement M
+read_batch_spec =
     tie.close
     (tie.spec
     read-header-requires

@@ -5,8 +5,8 @@ use Rattle.reading.proofs.BodyLaws.{jobs_refused, jobs_at, delays_refused, delay
 use Rattle.reading.proofs.batch.read_body.Statement.{statement}
 use Rattle.reading.proofs.batch.read_body.Tie as tie
 
-pub read-body-spec : {M : Type 1} → statement M
-read-body-spec =
+pub read_body_spec : {M : Type 1} → statement M
+read_body_spec =
     tie.close
     (tie.spec
     (λ c κs. search rules)

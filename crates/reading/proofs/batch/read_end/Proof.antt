@@ -4,8 +4,8 @@ use Rattle.reading.proofs.EndLaws.{end_refused, end_read}
 use Rattle.reading.proofs.batch.read_end.Statement.{statement}
 use Rattle.reading.proofs.batch.read_end.Tie as tie
 
-pub read-end-spec : {M : Type 1} → statement M
-read-end-spec =
+pub read_end_spec : {M : Type 1} → statement M
+read_end_spec =
     tie.close
     (tie.spec
     (λ c κs. search rules)

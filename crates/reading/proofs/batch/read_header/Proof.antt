@@ -49,8 +49,8 @@ returns-4 c =
     header_whole _ _ _ _ _ (omega (arith, f.inside))
     (one_read _ _ 0 f _ (omega arith) _ (header_counts _ _ _ _ _ c.before.before.before.header-frame.ensures c.before.frame2.given.1))
 
-pub read-header-spec : {M : Type 1} → statement M
-read-header-spec =
+pub read_header_spec : {M : Type 1} → statement M
+read_header_spec =
     tie.close
     (tie.spec
     returns

@@ -10,9 +10,9 @@ use Rattle.reading.proofs.EndLaws.{rest_second, rest_more, rest_none}
 use Rattle.reading.proofs.batch.read_rest.Statement.{statement}
 use Rattle.reading.proofs.batch.read_rest.Tie as tie
 
-pub read-rest-spec : {M : Type 1} → statement M
+pub read_rest_spec : {M : Type 1} → statement M
 unfolding windows_of window_in rests_of rest_in place_in blank_window count
-read-rest-spec =
+read_rest_spec =
     tie.close
     (tie.spec
     (λ c κs. search rules)

@@ -15,5 +15,5 @@ returns : tie.Need-returns
 unfolding batch_told answer_of value_of
 returns c = ap (λ (b : Batch). record { answer = Refused c.before.args.number; batch = b }) c.blank-batch.ensures
 
-pub refused-spec : {M : Type 1} → statement M
-refused-spec = tie.close (tie.spec blank-batch-requires returns)
+pub refused_spec : {M : Type 1} → statement M
+refused_spec = tie.close (tie.spec blank-batch-requires returns)

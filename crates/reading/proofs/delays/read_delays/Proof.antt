@@ -102,8 +102,8 @@ loop-again c =
 returns-4 : tie.Need-returns-4 invariant-loop decreases-loop
 returns-4 c = delays_whole _ _ _ _ c.before.loop.invariant.1.0 _ _ _ c.before.loop.invariant.1.1 c.loop-test.false
 
-pub read-delays-spec : {M : Type 1} → statement M
-read-delays-spec =
+pub read_delays_spec : {M : Type 1} → statement M
+read_delays_spec =
     tie.close
     (tie.spec
     invariant-loop

@@ -11,5 +11,5 @@ returns : tie.Need-returns
 unfolding delays_told next_of array_of pad blank_delay
 returns c = refl
 
-pub refused-spec : {M : Type 1} → statement M
-refused-spec = tie.close (tie.spec returns)
+pub refused_spec : {M : Type 1} → statement M
+refused_spec = tie.close (tie.spec returns)

@@ -102,8 +102,8 @@ loop-again c =
 returns-4 : tie.Need-returns-4 invariant-loop decreases-loop
 returns-4 c = jobs_whole _ _ _ _ c.before.loop.invariant.1.0 _ _ c.before.loop.invariant.1.1 c.loop-test.false
 
-pub read-jobs-spec : {M : Type 1} → statement M
-read-jobs-spec =
+pub read_jobs_spec : {M : Type 1} → statement M
+read_jobs_spec =
     tie.close
     (tie.spec
     invariant-loop

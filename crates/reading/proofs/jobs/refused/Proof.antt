@@ -11,5 +11,5 @@ returns : tie.Need-returns
 unfolding jobs_told next_of array_of pad blank_job
 returns c = refl
 
-pub refused-spec : {M : Type 1} → statement M
-refused-spec = tie.close (tie.spec returns)
+pub refused_spec : {M : Type 1} → statement M
+refused_spec = tie.close (tie.spec returns)

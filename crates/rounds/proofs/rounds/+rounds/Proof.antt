@@ -17,8 +17,8 @@ use Rattle.rounds.proofs.rounds.+rounds.Tie.{close}
 abbrev μ-rounds : Measures 5 rounds-kinds.ps ℕ
 μ-rounds κs a = a.1.1.1.1.1.1.1.0
 
-pub +rounds-spec : {M : Type 1} → statement M
-+rounds-spec =
+pub +rounds_spec : {M : Type 1} → statement M
++rounds_spec =
     close μ-rounds
     (λ t. rounds-lts.spec (
       round-reads.Asked,

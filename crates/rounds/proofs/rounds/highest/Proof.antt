@@ -16,9 +16,9 @@ invariant-loop old new starts₀ j₀ starts j = (j ≤ 24) × (starts ≡ fille
 abbrev decreases-loop : tie.decreases-loop
 decreases-loop old new starts₀ j₀ starts j = 24 - j
 
-pub highest-spec : {M : Type 1} → statement M
+pub highest_spec : {M : Type 1} → statement M
 unfolding highest_of
-highest-spec =
+highest_spec =
     tie.close
     (tie.spec invariant-loop decreases-loop
     (λ c. (search rules, filled_none _ 24))

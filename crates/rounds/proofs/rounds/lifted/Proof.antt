@@ -47,8 +47,8 @@ returns : tie.Need-returns invariant-loop decreases-loop
 unfolding lifted_of
 returns c = let h : c.before.loop.j ≡ 24 = omega arith in c.before.loop.invariant.1 ∙ ap (filled _ 24) h
 
-pub lifted-spec : {M : Type 1} → statement M
-lifted-spec =
+pub lifted_spec : {M : Type 1} → statement M
+lifted_spec =
     tie.close
     (tie.spec
     invariant-loop

@@ -85,8 +85,8 @@ returns : tie.Need-returns invariant-loop decreases-loop
 unfolding four_raised
 returns c = let h : c.before.loop.j ≡ 24 = omega arith in c.before.loop.invariant.1 ∙ ap (filled _ 24) h
 
-pub raised-spec : {M : Type 1} → statement M
-raised-spec =
+pub raised_spec : {M : Type 1} → statement M
+raised_spec =
     tie.close
     (tie.spec
     invariant-loop

@@ -14,8 +14,8 @@ invariant-loop table fours old high new₀ q₀ new q = (q ≤ fours) × (new �
 abbrev decreases-loop : tie.decreases-loop
 decreases-loop table fours old high new₀ q₀ new q = fours - q
 
-pub round-spec : {M : Type 1} → statement M
-round-spec =
+pub round_spec : {M : Type 1} → statement M
+round_spec =
     tie.close
     (tie.spec invariant-loop decreases-loop
     (λ c κs. search rules)

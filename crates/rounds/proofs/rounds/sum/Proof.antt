@@ -4,9 +4,9 @@ use Rattle.rounds.specs.Rounds.{sum_at}
 use Rattle.rounds.proofs.rounds.sum.Statement.{statement}
 use Rattle.rounds.proofs.rounds.sum.Tie as tie
 
-pub sum-spec : {M : Type 1} → statement M
+pub sum_spec : {M : Type 1} → statement M
 unfolding sum_at
-sum-spec =
+sum_spec =
     tie.close
     (tie.spec
     (λ c. search rules)

@@ -38,8 +38,8 @@ returns-3 c =
     let e = b.before.before in
     told_plan _ _ _ _ _ _ _ w.wide.result _ (not-false e.before.before.before.args.search.ended e.if1.false) b.best.given.1 w.wide.ensures.0 g.give-starts.ensures
 
-pub answered-spec : {M : Type 1} → statement M
-answered-spec =
+pub answered_spec : {M : Type 1} → statement M
+answered_spec =
     tie.close
     (tie.spec
     returns

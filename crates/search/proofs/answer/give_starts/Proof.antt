@@ -52,8 +52,8 @@ returns c =
     let z : c.before.loop.k ≡ c.before.before.args.n = omega arith in
     rw (← z) c.before.loop.invariant.2
 
-pub give-starts-spec : {M : Type 1} → statement M
-give-starts-spec =
+pub give_starts_spec : {M : Type 1} → statement M
+give_starts_spec =
     tie.close
     (tie.spec
     invariant-loop

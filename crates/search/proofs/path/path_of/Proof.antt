@@ -49,8 +49,8 @@ loop-again c =
 returns : tie.Need-returns invariant-loop decreases-loop
 returns c = path_all _ _ _ _ c.before.loop.invariant.0 (omega arith) c.before.loop.invariant.1
 
-pub path-of-spec : {M : Type 1} → statement M
-path-of-spec =
+pub path_of_spec : {M : Type 1} → statement M
+path_of_spec =
     tie.close
     (tie.spec
     invariant-loop

@@ -8,8 +8,8 @@ use Rattle.search.proofs.AdvanceLaws.{first_placed, first_paired, first_times, f
 use Rattle.search.proofs.run.advance.Statement.{statement}
 use Rattle.search.proofs.run.advance.Tie as tie
 
-pub advance-spec : {M : Type 1} → statement M
-advance-spec =
+pub advance_spec : {M : Type 1} → statement M
+advance_spec =
     tie.close
     (tie.spec
     (λ c κs. search rules)

@@ -4,8 +4,8 @@ use Rattle.search.proofs.RunLaws.{has_room, over, no_nodes}
 use Rattle.search.proofs.run.after_run.Statement.{statement}
 use Rattle.search.proofs.run.after_run.Tie as tie
 
-pub after-run-spec : {M : Type 1} → statement M
-after-run-spec =
+pub after_run_spec : {M : Type 1} → statement M
+after_run_spec =
     tie.close
     (tie.spec
     (λ c. over _ _ c.if1.true)

@@ -13,5 +13,5 @@ sub-result c = search rules
 returns-2 : tie.Need-returns-2
 returns-2 c = drawn _ _ _ c.if1.false c.before.requires
 
-pub overdrawn-spec : {M : Type 1} → statement M
-overdrawn-spec = tie.close (tie.spec returns sub-result returns-2)
+pub overdrawn_spec : {M : Type 1} → statement M
+overdrawn_spec = tie.close (tie.spec returns sub-result returns-2)

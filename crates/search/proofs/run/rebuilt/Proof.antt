@@ -13,5 +13,5 @@ path-of-requires c κs = search rules
 returns : tie.Need-returns
 returns c = rebuilt_is _ _ _ _ _ c.before.path-of.ensures
 
-pub rebuilt-spec : {M : Type 1} → statement M
-rebuilt-spec = tie.close (tie.spec path-of-requires returns)
+pub rebuilt_spec : {M : Type 1} → statement M
+rebuilt_spec = tie.close (tie.spec path-of-requires returns)

@@ -96,8 +96,8 @@ returns-5 c =
     ran_on a.search a.budget a.list.now _ _ _ x.before.if1.false (sym x.examine.ensures.told ∙ not-false x.examine.result.sound w.before.if2.false) (omega (arith, w.wide.ensures.0, o.before.if3.false)) _
     o.overdrawn.ensures r.before.if4.false r.after_run.ensures q.answered.ensures
 
-pub run-search-spec : {M : Type 1} → statement M
-run-search-spec =
+pub run_search_spec : {M : Type 1} → statement M
+run_search_spec =
     tie.close
     (tie.spec
     refused-requires

@@ -14,8 +14,8 @@ invariant-loop tail₀ head₀ gap₀ codes turns depth k₀ tail head gap k = (
 abbrev decreases-loop : tie.decreases-loop
 decreases-loop tail₀ head₀ gap₀ codes turns depth k₀ tail head gap k = depth - k
 
-pub store-turns-spec : {M : Type 1} → statement M
-store-turns-spec =
+pub store_turns_spec : {M : Type 1} → statement M
+store_turns_spec =
     tie.close
     (tie.spec invariant-loop decreases-loop
     (λ c. (search rules, c.requires.1))

@@ -22,6 +22,6 @@ returns-2 c = best_some _ _ _ _ _ c.before.before.before.best.given.1 c.before.i
 returns-3 : tie.Need-returns-3
 returns-3 c = best_late _ _ _ _ c.before.before.best.given.1 c.if1.false
 
-pub best-ok-spec : {M : Type 1} → statement M
-best-ok-spec =
+pub best_ok_spec : {M : Type 1} → statement M
+best_ok_spec =
     tie.close (tie.spec enum_told enum-known-best starts-ok-requires returns returns-2 returns-3)

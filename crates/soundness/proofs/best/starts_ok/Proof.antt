@@ -38,8 +38,8 @@ loop-again c = all_passed _ _ _ _ c.before.before.loop.invariant c.before.loop-t
 returns-2 : tie.Need-returns-2 invariant-loop decreases-loop
 returns-2 c = all_ended _ _ _ _ c.before.loop.invariant c.loop-test.false
 
-pub starts-ok-spec : {M : Type 1} → statement M
-starts-ok-spec =
+pub starts_ok_spec : {M : Type 1} → statement M
+starts_ok_spec =
     tie.close
     (tie.spec
     invariant-loop

@@ -78,8 +78,8 @@ returns-3 c =
     let at = c.before.before.before in
     read_empty _ _ _ _ _ at.before.before.requires at.before.loop.invariant.1 _ _ at.loop-test.true refl _ c.before.is-empty.ensures c.if1.true
 
-pub read-path-spec : {M : Type 1} → statement M
-read-path-spec =
+pub read_path_spec : {M : Type 1} → statement M
+read_path_spec =
     tie.close
     (tie.spec
     invariant-loop

@@ -46,8 +46,8 @@ loop-again c =
 returns : tie.Need-returns invariant-loop decreases-loop
 returns c = rest_ended _ _ c.before.loop.rest _ (search rules) c.loop-test.false c.before.loop.invariant
 
-pub rest-empty-spec : {M : Type 1} → statement M
-rest-empty-spec =
+pub rest_empty_spec : {M : Type 1} → statement M
+rest_empty_spec =
     tie.close
     (tie.spec
     invariant-loop

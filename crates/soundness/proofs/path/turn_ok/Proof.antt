@@ -19,6 +19,6 @@ returns-2 c = turn_mark _ _ _ _ c.before.before.before.before.wide16.ensures.0 c
 returns-3 : tie.Need-returns-3
 returns-3 c = turn_side _ _ _ _ c.before.before.before.wide16.ensures.0 c.before.before.if1.false c.if2.false
 
-pub turn-ok-spec : {M : Type 1} → statement M
-turn-ok-spec =
+pub turn_ok_spec : {M : Type 1} → statement M
+turn_ok_spec =
     tie.close (tie.spec wide16-requires returns element-copy-out-result returns-2 returns-3)

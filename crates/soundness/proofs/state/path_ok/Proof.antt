@@ -25,5 +25,5 @@ returns-4 c =
     path_over _ _ blank.before.before.before.before.before.requires blank.before.before.before.if1.false _ blank.before.rest_empty_lem.ensures
     blank.if2.false c.if3.false
 
-pub path-ok-spec : {M : Type 1} → statement M
-path-ok-spec = tie.close (tie.spec returns rest-empty-requires returns-2 returns-3 returns-4)
+pub path_ok_spec : {M : Type 1} → statement M
+path_ok_spec = tie.close (tie.spec returns rest-empty-requires returns-2 returns-3 returns-4)

@@ -25,7 +25,7 @@ returns-3 c =
     state_best _ _ low.before.before.before.path-ok.ensures low.before.before.if1.false _ _ low.if2.false c.before.wide.ensures.0
     c.best-ok.ensures
 
-pub state-ok-spec : {M : Type 1} → statement M
-state-ok-spec =
+pub state_ok_spec : {M : Type 1} → statement M
+state_ok_spec =
     tie.close
     (tie.spec path-ok-requires returns returns-2 wide-requires best-ok-requires returns-3)

@@ -18,9 +18,9 @@ invariant-loop m from to code table heaviest₀ k₀ heaviest k = (k ≤ m) × (
 abbrev decreases-loop : tie.decreases-loop
 decreases-loop m from to code table heaviest₀ k₀ heaviest k = m - k
 
-pub heaviest-of-spec : {M : Type 1} → statement M
+pub heaviest_of_spec : {M : Type 1} → statement M
 unfolding empty_table
-heaviest-of-spec =
+heaviest_of_spec =
     tie.close
     (tie.spec invariant-loop decreases-loop
     (λ c κs. search rules)

@@ -4,8 +4,8 @@ use Rattle.weights.proofs.SoundLaws.{sound_read}
 use Rattle.starts.proofs.met.delays_met.Statement.{statement}
 use Rattle.starts.proofs.met.delays_met.Tie as tie
 
-pub delays-met-spec : {M : Type 1} → statement M
-delays-met-spec =
+pub delays_met_spec : {M : Type 1} → statement M
+delays_met_spec =
     tie.close
     (tie.spec
     (λ c κs. search rules)

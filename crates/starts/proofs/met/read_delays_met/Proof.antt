@@ -8,9 +8,9 @@ use Rattle.starts.proofs.MetLaws.{begin_small, begin_fits, met_placed, met_is}
 use Rattle.starts.proofs.met.read_delays_met.Statement.{statement}
 use Rattle.starts.proofs.met.read_delays_met.Tie as tie
 
-pub read-delays-met-spec : {M : Type 1} → statement M
+pub read_delays_met_spec : {M : Type 1} → statement M
 unfolding empty_table
-read-delays-met-spec =
+read_delays_met_spec =
     tie.close
     (tie.spec
     (λ c κs. search rules)

@@ -56,8 +56,8 @@ loop-again c = (
 returns : tie.Need-returns invariant-loop decreases-loop
 returns c = let h : c.before.loop.k ≡ c.before.before.args.depth = omega arith in rw (← h) c.before.loop.invariant.1
 
-pub put-turns-spec : {M : Type 1} → statement M
-put-turns-spec =
+pub put_turns_spec : {M : Type 1} → statement M
+put_turns_spec =
     tie.close
     (tie.spec
     invariant-loop

@@ -56,8 +56,8 @@ loop-again c = (
 returns : tie.Need-returns invariant-loop decreases-loop
 returns c = let h : c.before.loop.k ≡ c.before.before.args.m = omega arith in rw (← h) c.before.loop.invariant.1
 
-pub store-delays-spec : {M : Type 1} → statement M
-store-delays-spec =
+pub store_delays_spec : {M : Type 1} → statement M
+store_delays_spec =
     tie.close
     (tie.spec
     invariant-loop

@@ -18,8 +18,8 @@ invariant-loop earliest₀ latest₀ n windows i₀ earliest latest i =
 abbrev decreases-loop : tie.decreases-loop
 decreases-loop earliest₀ latest₀ n windows i₀ earliest latest i = n - i
 
-pub ends-of-spec : {M : Type 1} → statement M
-ends-of-spec =
+pub ends_of_spec : {M : Type 1} → statement M
+ends_of_spec =
     tie.close
     (tie.spec invariant-loop decreases-loop
     (λ c κs. search rules)

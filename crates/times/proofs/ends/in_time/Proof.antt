@@ -15,8 +15,8 @@ invariant-loop latest starts timely₀ j₀ timely j = (j ≤ 24) × (timely ≡
 abbrev decreases-loop : tie.decreases-loop
 decreases-loop latest starts timely₀ j₀ timely j = 24 - j
 
-pub in-time-spec : {M : Type 1} → statement M
-in-time-spec =
+pub in_time_spec : {M : Type 1} → statement M
+in_time_spec =
     tie.close
     (tie.spec invariant-loop decreases-loop
     (λ c. (search rules, late_none _ _))

@@ -14,9 +14,9 @@ invariant-loop latency stays starts latest₀ i₀ latest i = (i ≤ 24) × (lat
 abbrev decreases-loop : tie.decreases-loop
 decreases-loop latency stays starts latest₀ i₀ latest i = 24 - i
 
-pub raised-latency-spec : {M : Type 1} → statement M
+pub raised_latency_spec : {M : Type 1} → statement M
 unfolding raised_by
-raised-latency-spec =
+raised_latency_spec =
     tie.close
     (tie.spec invariant-loop decreases-loop
     (λ c. (search rules, rw latency_none (omega arith)))

@@ -14,8 +14,8 @@ invariant-loop masks ticks p = (p ≤ 16) × (stay_in (record { ticks = ticks; m
 abbrev decreases-loop : tie.decreases-loop
 decreases-loop masks ticks p = p
 
-pub stay-of-spec : {M : Type 1} → statement M
-stay-of-spec =
+pub stay_of_spec : {M : Type 1} → statement M
+stay_of_spec =
     tie.close
     (tie.spec invariant-loop decreases-loop
     (λ c. record { fits = omega (arith, c.before.before.requires) })

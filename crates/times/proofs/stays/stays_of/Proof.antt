@@ -17,8 +17,8 @@ invariant-loop batch stays₀ n i₀ stays i = (i ≤ n) × (stays ≡ filled (�
 abbrev decreases-loop : tie.decreases-loop
 decreases-loop batch stays₀ n i₀ stays i = n - i
 
-pub stays-of-spec : {M : Type 1} → statement M
-stays-of-spec =
+pub stays_of_spec : {M : Type 1} → statement M
+stays_of_spec =
     tie.close
     (tie.spec invariant-loop decreases-loop
     (λ c κs. search rules)

@@ -15,5 +15,5 @@ sub-result c = (lift_is _ c.ranges.w c.requires).0
 returns : tie.Need-returns
 returns c = (lift_is _ c.ranges.w c.requires).1
 
-pub code-of-spec : {M : Type 1} → statement M
-code-of-spec = tie.close (tie.spec add-lifted cast-lifted sub-result returns)
+pub code_of_spec : {M : Type 1} → statement M
+code_of_spec = tie.close (tie.spec add-lifted cast-lifted sub-result returns)

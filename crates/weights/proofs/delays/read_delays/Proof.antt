@@ -12,8 +12,8 @@ invariant-loop n m from to weight code₀ k₀ code k = ReadTo n (record { from 
 abbrev decreases-loop : tie.decreases-loop
 decreases-loop n m from to weight code₀ k₀ code k = m - k
 
-pub read-delays-spec : {M : Type 1} → statement M
-read-delays-spec =
+pub read_delays_spec : {M : Type 1} → statement M
+read_delays_spec =
     tie.close
     (tie.spec invariant-loop decreases-loop
     (λ c κs. search rules)

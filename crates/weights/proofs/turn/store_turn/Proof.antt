@@ -4,8 +4,8 @@ use Rattle.weights.proofs.TurnLaws.{even_stored, odd_stored}
 use Rattle.weights.proofs.turn.store_turn.Statement.{statement}
 use Rattle.weights.proofs.turn.store_turn.Tie as tie
 
-pub store-turn-spec : {M : Type 1} → statement M
-store-turn-spec =
+pub store_turn_spec : {M : Type 1} → statement M
+store_turn_spec =
     tie.close
     (tie.spec
     (λ c κs. search rules)

@@ -19,9 +19,9 @@ invariant-loop batch n m size₀ i₀ size i =
 abbrev decreases-loop : tie.decreases-loop
 decreases-loop batch n m size₀ i₀ size i = n - i
 
-pub batch-length-spec : {M : Type 1} → statement M
+pub batch_length_spec : {M : Type 1} → statement M
 unfolding pieces joined count
-batch-length-spec =
+batch_length_spec =
     tie.close
     (tie.spec
     invariant-loop

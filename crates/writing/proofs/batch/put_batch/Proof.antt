@@ -15,9 +15,9 @@ use Rattle.writing.proofs.Texts.{delays_length, batch_length, front_none, front_
 use Rattle.writing.proofs.batch.put_batch.Statement.{statement}
 use Rattle.writing.proofs.batch.put_batch.Tie as tie
 
-pub put-batch-spec : {M : Type 1} → statement M
+pub put_batch_spec : {M : Type 1} → statement M
 unfolding batch_file further_text further_of
-put-batch-spec =
+put_batch_spec =
     tie.close
     (tie.spec
     (λ c. search rules)

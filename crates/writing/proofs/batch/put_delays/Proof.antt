@@ -19,8 +19,8 @@ invariant-loop buffer₀ at m from to weight next₀ k₀ buffer next k = (k ≤
 abbrev decreases-loop : tie.decreases-loop
 decreases-loop buffer₀ at m from to weight next₀ k₀ buffer next k = m - k
 
-pub put-delays-spec : {M : Type 1} → statement M
-put-delays-spec =
+pub put_delays_spec : {M : Type 1} → statement M
+put_delays_spec =
     tie.close
     (tie.spec invariant-loop decreases-loop
     (λ c κs. search rules)

@@ -62,8 +62,8 @@ returns c =
     let batch = c.before.before.before.before.args.t3 in
     filled_all _ _ _ batch.n _ c.before.loop.invariant.1 (omega arith) (jobs_text batch)
 
-pub put-jobs-spec : {M : Type 1} → statement M
-put-jobs-spec =
+pub put_jobs_spec : {M : Type 1} → statement M
+put_jobs_spec =
     tie.close
     (tie.spec
     invariant-loop

@@ -29,6 +29,6 @@ returns-2 c =
     text_as_lem _ c.before.before.write-bounded.ensures
     (batch_sound answer.before.before.args.search (passes answer.is_sound.ensures c.before.before.before.before.before.if1.false))
 
-pub write-batch-spec : {M : Type 1} → statement M
-write-batch-spec =
+pub write_batch_spec : {M : Type 1} → statement M
+write_batch_spec =
     tie.close (tie.spec is-sound-requires returns write-bounded-requires same_length returns-2)

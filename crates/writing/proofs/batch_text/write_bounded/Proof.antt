@@ -22,6 +22,6 @@ returns-2 c =
     let put = c.before.before.put-batch.ensures in
     text_fits _ _ (omega arith) put.0 put.1
 
-pub write-bounded-spec : {M : Type 1} → statement M
-write-bounded-spec =
+pub write_bounded_spec : {M : Type 1} → statement M
+write_bounded_spec =
     tie.close (tie.spec batch-length-requires returns put-batch-requires same_length returns-2)

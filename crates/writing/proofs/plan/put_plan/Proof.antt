@@ -25,5 +25,5 @@ returns c =
     let size = head_length args.n args.latency args.total in
     (search rules, put_then _ 0 _ _ (omega (arith, size)) (omega (arith, size)) first.1 second.1)
 
-pub put-plan-spec : {M : Type 1} → statement M
-put-plan-spec = tie.close (tie.spec put-head-requires put-starts-requires same_length returns)
+pub put_plan_spec : {M : Type 1} → statement M
+put_plan_spec = tie.close (tie.spec put-head-requires put-starts-requires same_length returns)

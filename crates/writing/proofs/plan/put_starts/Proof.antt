@@ -64,8 +64,8 @@ returns c =
     let all = filled_all _ _ _ n _ c.before.loop.invariant.1 (omega arith) (starts_text n starts) in
     (omega (arith, all.0, starts_size starts n, ap length (starts_text n starts)), all.1)
 
-pub put-starts-spec : {M : Type 1} → statement M
-put-starts-spec =
+pub put_starts_spec : {M : Type 1} → statement M
+put_starts_spec =
     tie.close
     (tie.spec
     invariant-loop

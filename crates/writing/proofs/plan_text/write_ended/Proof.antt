@@ -30,8 +30,8 @@ returns-2 : tie.Need-returns-2
 returns-2 c =
     text_as_lem _ c.before.before.write-found.ensures (plan_some _ _ _ _ c.before.before.before.before.before.best.given.1)
 
-pub write-ended-spec : {M : Type 1} → statement M
-write-ended-spec =
+pub write_ended_spec : {M : Type 1} → statement M
+write_ended_spec =
     tie.close
     (tie.spec
     enum_told

@@ -33,7 +33,7 @@ returns-2 c =
     let size = found_length args.n args.latency args.starts args.total in
     text_fits _ _ (omega arith) (omega arith) put.1
 
-pub write-found-spec : {M : Type 1} → statement M
-write-found-spec =
+pub write_found_spec : {M : Type 1} → statement M
+write_found_spec =
     tie.close
     (tie.spec wide-requires mul-size add-size returns put-plan-requires same_length returns-2)

@@ -21,5 +21,5 @@ returns-2 c =
     let size = no_plan_length c.before.before.before.before.before.before.args.total in
     text_fits _ _ (omega arith) (omega arith) put.1
 
-pub write-no-plan-spec : {M : Type 1} → statement M
-write-no-plan-spec = tie.close (tie.spec returns put-no-plan-requires same_length returns-2)
+pub write_no_plan_spec : {M : Type 1} → statement M
+write_no_plan_spec = tie.close (tie.spec returns put-no-plan-requires same_length returns-2)

@@ -37,7 +37,7 @@ returns-3 c =
     let ended = passes refl c.before.before.before.before.before.if2.false in
     text_as_lem _ c.before.before.write-ended.ensures (plan_ended answer.before.before.args.search sound ended)
 
-pub write-plan-spec : {M : Type 1} → statement M
-write-plan-spec =
+pub write_plan_spec : {M : Type 1} → statement M
+write_plan_spec =
     tie.close
     (tie.spec is-sound-requires returns returns-2 write-ended-requires same_length returns-3)
