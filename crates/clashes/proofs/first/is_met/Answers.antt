@@ -1,0 +1,7 @@
+-- `first::is_met` meets its contract: two sums in place of a difference and a signed distance.
+use borrow.Author.Rules.{rules}
+use Rattle.clashes.proofs.FirstLaws.{code_met}
+use Rattle.clashes.proofs.first.is_met.Goals as goal
+
+pub returns : goal.returns
+returns c = code_met _ _ _ _ _ c.wide16-x.ensures.0 c.wide16.ensures.0 c.wide16-2.ensures.0

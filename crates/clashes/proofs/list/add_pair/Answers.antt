@@ -1,0 +1,33 @@
+-- `list::add_pair` meets its contract. The invariant: what is left of the distances completes the pair.
+use Prim.Native.Nat.{◌+◌, ◌-◌, ◌≤◌, ◌<◌}
+use mathlib.Core.Path.{◌≡◌, refl, ◌∙◌}
+use mathlib.Core.Logic.{⊎_elim}
+use native.Mathlib.Omega.{arith}
+use borrow.Author.Rules.{rules}
+use Rattle.tables.specs.Tables.{table_of}
+use Rattle.clashes.specs.List.{listing}
+use Rattle.clashes.proofs.PairLaws.{Pairing, pair_first, pair_in, pair_out, pair_last, pair_jobs}
+use Rattle.clashes.proofs.StoreLaws.{listing_same}
+use Rattle.clashes.proofs.list.add_pair.Goals as goal
+
+pub loop-k-init : goal.loop-k-init
+loop-k-init c = (search rules, (refl, pair_first _ _ _ _ _ _ _ refl (search rules) (search rules)))
+
+-- one distance more
+pub loop-k-preserved : goal.loop-k-preserved
+loop-k-preserved c = let i = c.loop-k.invariant in
+    let below : c.loop-k.k < 45 = search rules in
+    let told = c.tables_meet.ensures in (
+      i.0,
+      (
+        i.1.0,
+        ⊎_elim
+            (λ w. pair_in _ _ _ _ _ _ _ _ _ _ i.1.1 below told w.0.taken (listing_same w.4 w.3 ∙ w.2.ensures))
+            (λ w. pair_out _ _ _ _ _ _ _ _ _ _ i.1.1 below told w.0.left (listing_same w.2 w.1))
+            c.if-tables_meet.branch,
+      ),
+    )
+
+pub returns : goal.returns
+returns c = let i = c.loop-k.invariant.1 in
+    pair_jobs _ _ _ _ _ _ _ _ c.wide16-q.ensures.0 (pair_last _ _ _ _ _ _ _ _ i.1 (omega (arith, i.0, c.loop-k-test.false)))
