@@ -1,9 +1,7 @@
 -- `first::first_met` meets its contract. The invariant: the first that is met from code k on is the first of all.
-use Prim.Native.Nat.{◌≤◌, ◌-◌}
-use mathlib.Core.Path.{◌≡◌, ◌∙◌}
+use mathlib.Core.Path.{◌∙◌}
 use borrow.Author.Rules.{rules}
-use Rattle.clashes.specs.First.{first_code}
-use Rattle.clashes.proofs.FirstLaws.{first_from, first_found, first_more, first_end, first_rest}
+use Rattle.clashes.proofs.FirstLaws.{first_found, first_more, first_end, first_rest}
 use Rattle.clashes.proofs.first.first_met.Goals as goal
 
 -- none is met before low

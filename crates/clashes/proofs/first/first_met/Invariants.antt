@@ -1,9 +1,8 @@
 -- `first::first_met` meets its contract. The invariant: the first that is met from code k on is the first of all.
 use Prim.Native.Nat.{◌≤◌, ◌-◌}
-use mathlib.Core.Path.{◌≡◌, ◌∙◌}
-use borrow.Author.Rules.{rules}
+use mathlib.Core.Path.{◌≡◌}
 use Rattle.clashes.specs.First.{first_code}
-use Rattle.clashes.proofs.FirstLaws.{first_from, first_found, first_more, first_end, first_rest}
+use Rattle.clashes.proofs.FirstLaws.{first_from}
 use Rattle.clashes.proofs.first.first_met.Given as goal
 
 abbrev pub invariant-loop-k : goal.invariant-loop-k

@@ -1,5 +1,4 @@
 -- `first::is_met` meets its contract: two sums in place of a difference and a signed distance.
-use borrow.Author.Rules.{rules}
 use Rattle.clashes.proofs.FirstLaws.{code_met}
 use Rattle.clashes.proofs.first.is_met.Goals as goal
 

@@ -1,14 +1,12 @@
 -- `list::add_pair` meets its contract. The invariant: what is left of the distances completes the pair.
-use Prim.Native.Nat.{◌+◌, ◌-◌, ◌≤◌, ◌<◌}
-use mathlib.Core.Path.{◌≡◌, refl, ◌∙◌}
-use mathlib.Core.Logic.{⊎_elim}
+use Prim.Native.Nat.{◌<◌}
+use mathlib.Core.Path.{refl, ◌∙◌}
 use native.Mathlib.Omega.{arith}
 use borrow.Author.Rules.{rules}
-use Rattle.tables.specs.Tables.{table_of}
-use Rattle.clashes.specs.List.{listing}
-use Rattle.clashes.proofs.PairLaws.{Pairing, pair_first, pair_in, pair_out, pair_last, pair_jobs}
+use Rattle.clashes.proofs.PairLaws.{pair_first, pair_in, pair_out, pair_last, pair_jobs}
 use Rattle.clashes.proofs.StoreLaws.{listing_same}
 use Rattle.clashes.proofs.list.add_pair.Goals as goal
+use Rattle.clashes.proofs.list.add_pair.Goals.{then-tables_meet, else-tables_meet}
 
 pub loop-k-init : goal.loop-k-init
 loop-k-init c = (search rules, (refl, pair_first _ _ _ _ _ _ _ refl (search rules) (search rules)))
@@ -21,10 +19,10 @@ loop-k-preserved c = let i = c.loop-k.invariant in
       i.0,
       (
         i.1.0,
-        ⊎_elim
-            (λ w. pair_in _ _ _ _ _ _ _ _ _ _ i.1.1 below told w.0.taken (listing_same w.4 w.3 ∙ w.2.ensures))
-            (λ w. pair_out _ _ _ _ _ _ _ _ _ _ i.1.1 below told w.0.left (listing_same w.2 w.1))
-            c.if-tables_meet.branch,
+        elim c.if-tables_meet.branch [
+          | then-tables_meet w ↦ pair_in _ _ _ _ _ _ _ _ _ _ i.1.1 below told w.if-tables_meet.true (listing_same w.at-is w.codes-is ∙ w.put_code-at.ensures)
+          | else-tables_meet w ↦ pair_out _ _ _ _ _ _ _ _ _ _ i.1.1 below told w.if-tables_meet.false (listing_same w.at-is w.codes-is)
+        ],
       ),
     )
 

@@ -1,13 +1,9 @@
 -- `list::add_pair` meets its contract. The invariant: what is left of the distances completes the pair.
-use Prim.Native.Nat.{◌+◌, ◌-◌, ◌≤◌, ◌<◌}
-use mathlib.Core.Path.{◌≡◌, refl, ◌∙◌}
-use mathlib.Core.Logic.{⊎_elim}
-use native.Mathlib.Omega.{arith}
-use borrow.Author.Rules.{rules}
+use Prim.Native.Nat.{◌+◌, ◌-◌, ◌≤◌}
+use mathlib.Core.Path.{◌≡◌}
 use Rattle.tables.specs.Tables.{table_of}
 use Rattle.clashes.specs.List.{listing}
-use Rattle.clashes.proofs.PairLaws.{Pairing, pair_first, pair_in, pair_out, pair_last, pair_jobs}
-use Rattle.clashes.proofs.StoreLaws.{listing_same}
+use Rattle.clashes.proofs.PairLaws.{Pairing}
 use Rattle.clashes.proofs.list.add_pair.Given as goal
 
 abbrev pub invariant-loop-k : goal.invariant-loop-k

@@ -1,17 +1,10 @@
 -- `list::list_clashes` meets its contract. The invariants: what is left of the rows completes the list, and what is left of the jobs after job i
 -- completes its row.
-use Prim.Native.Nat.{ℕ, suc, ◌+◌, ◌-◌, ◌<◌}
-use mathlib.Core.Path.{◌≡◌, refl}
-use mathlib.Core.List.{List}
-use lib.ListN.{length, length-map}
+use mathlib.Core.Path.{refl}
 use native.Mathlib.Omega.{arith}
 use borrow.Author.Rules.{rules}
-use Rattle.model.specs.declared.Batch.{Batch}
-use Rattle.model.specs.Clash.{clashes_of}
-use Rattle.tables.specs.Rest.{Longest, Closes, Widens}
-use Rattle.clashes.specs.List.{listing}
-use Rattle.clashes.proofs.GrowLaws.{Growing, grow_none}
-use Rattle.clashes.proofs.RowLaws.{row_of, job_at, job_short, resting, row_more, row_end, list_more, list_end}
+use Rattle.clashes.proofs.GrowLaws.{grow_none}
+use Rattle.clashes.proofs.RowLaws.{job_short, resting, row_more, row_end, list_more, list_end}
 use Rattle.clashes.proofs.list.list_clashes.Goals as goal
 
 pub longest_rest-longest-requires : goal.longest_rest-longest-requires
@@ -22,7 +15,7 @@ close_masks-close-requires c = c.longest_rest-longest.ensures
 
 pub loop-i-init : goal.loop-i-init
 loop-i-init c = (
-  ((search rules, simp length-map at c.well_formed.0.1.1.1.1.1.0.1.0.1), (c.longest_rest-longest.ensures, c.close_masks-close.ensures)),
+  ((search rules, c.well_formed.0.1.1.1.1.1.0.1.0.1), (c.longest_rest-longest.ensures, c.close_masks-close.ensures)),
   grow_none _ _ _ _ _ _ (search rules) (search rules),
 )
 

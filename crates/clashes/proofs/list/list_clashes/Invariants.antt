@@ -1,16 +1,14 @@
 -- `list::list_clashes` meets its contract. The invariants: what is left of the rows completes the list, and what is left of the jobs after job i
 use Prim.Native.Nat.{ℕ, suc, ◌+◌, ◌-◌, ◌<◌}
-use mathlib.Core.Path.{◌≡◌, refl}
+use mathlib.Core.Path.{◌≡◌}
 use mathlib.Core.List.{List}
-use lib.ListN.{length, length-map}
-use native.Mathlib.Omega.{arith}
-use borrow.Author.Rules.{rules}
+use lib.ListN.{length}
 use Rattle.model.specs.declared.Batch.{Batch}
 use Rattle.model.specs.Clash.{clashes_of}
 use Rattle.tables.specs.Rest.{Longest, Closes, Widens}
 use Rattle.clashes.specs.List.{listing}
-use Rattle.clashes.proofs.GrowLaws.{Growing, grow_none}
-use Rattle.clashes.proofs.RowLaws.{row_of, job_at, job_short, resting, row_more, row_end, list_more, list_end}
+use Rattle.clashes.proofs.GrowLaws.{Growing}
+use Rattle.clashes.proofs.RowLaws.{row_of, job_at}
 use Rattle.clashes.proofs.list.list_clashes.Given as goal
 
 -- what holds throughout
