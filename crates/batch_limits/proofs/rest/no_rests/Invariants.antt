@@ -1,0 +1,14 @@
+-- `rest::no_rests` meets its contract. The invariant: the stations from s on decide.
+use Prim.Native.Nat.{◌-◌}
+use mathlib.Core.Path.{◌≡◌, refl, ◌∙◌}
+use borrow.Author.Rules.{rules}
+use borrow.Author.Tests.{eq-eqb, ne_eqb}
+use Rattle.model.proofs.AllLaws.{all_from, all_passed, all_failed, all_ended}
+use Rattle.batch_limits.proofs.FurtherLaws.{restless, restless_start}
+use Rattle.batch_limits.proofs.rest.no_rests.Given as goal
+
+abbrev pub invariant-loop-s : goal.invariant-loop-s
+invariant-loop-s l = all_from (restless l.rests) l.s 16 ≡ all_from (restless l.rests) 0 16
+
+abbrev pub decreases-loop-s : goal.decreases-loop-s
+decreases-loop-s l = 16 - l.s

@@ -1,0 +1,16 @@
+-- `lifted` meets its contract. The loop's invariant: the first j places are filled.
+use borrow.Author.Rules.{rules}
+use native.Mathlib.Omega.{arith}
+use mathlib.Core.Path.{◌≡◌, refl, ◌∙◌, ap}
+use Prim.Native.Nat.{◌+◌, ◌≤◌, ◌-◌}
+use lib.ListN.{get_or}
+use Rattle.times.specs.Fill.{filled}
+use Rattle.rounds.specs.Rounds.{lifted_of}
+use Rattle.times.proofs.FillLaws.{filled_none, filled_more}
+use Rattle.rounds.proofs.rounds.lifted.Given as goal
+
+abbrev pub invariant-loop-j : goal.invariant-loop-j
+invariant-loop-j l = (l.j ≤ 24) × (l.high ≡ filled (λ k. get_or l.old k 0 + 1000) 24 l.j)
+
+abbrev pub decreases-loop-j : goal.decreases-loop-j
+decreases-loop-j l = 24 - l.j

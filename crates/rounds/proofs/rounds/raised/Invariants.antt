@@ -1,0 +1,18 @@
+-- `raised` meets its contract. The loop's invariant: the first j places are filled.
+use borrow.Author.Rules.{rules}
+use native.Mathlib.Omega.{arith}
+use mathlib.Core.Path.{◌≡◌, ◌∙◌, ap}
+use Prim.Native.Nat.{◌+◌, ◌≤◌, ◌-◌, max}
+use lib.ListN.{get_or}
+use Rattle.times.specs.Fill.{filled}
+use Rattle.rounds.specs.Rounds.{sum_at, four_raised}
+use Rattle.times.proofs.FillLaws.{filled_none, filled_more}
+use Rattle.rounds.proofs.RoundLaws.{four_place}
+use Rattle.rounds.proofs.rounds.raised.Given as goal
+
+abbrev pub invariant-loop-j : goal.invariant-loop-j
+invariant-loop-j l = (l.j ≤ 24)
+    × (l.more ≡ filled (λ k. max (get_or l.new k 0) (max (max (sum_at l.table l.high k l.i) (sum_at l.table l.high k (l.i + 1))) (max (sum_at l.table l.high k (l.i + 2)) (sum_at l.table l.high k (l.i + 3))))) 24 l.j)
+
+abbrev pub decreases-loop-j : goal.decreases-loop-j
+decreases-loop-j l = 24 - l.j
