@@ -3,12 +3,8 @@ use mathlib.Core.Path.{refl}
 use Rattle.model.specs.Batch.{blank_job}
 use Rattle.frame_read.specs.Answer.{answer_of, value_of}
 use Rattle.frame_read.specs.Frame.{job_told}
-use Rattle.frame_read.proofs.job.refused.Statement.{statement}
-use Rattle.frame_read.proofs.job.refused.Tie as tie
+use Rattle.frame_read.proofs.job.refused.Goals as goal
 
-returns : tie.Need-returns
+pub returns : goal.returns
 unfolding job_told answer_of value_of blank_job
 returns c = refl
-
-pub refused_spec : {M : Type 1} → statement M
-refused_spec = tie.close (tie.spec returns)
