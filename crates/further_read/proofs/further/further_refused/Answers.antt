@@ -8,9 +8,8 @@ use Rattle.model.specs.Rest.{rest_in, rests_of}
 use Rattle.model.specs.Format.{no_further}
 use Rattle.frame_read.specs.Answer.{answer_of, value_of}
 use Rattle.further_read.specs.Further.{further_told}
-use Rattle.further_read.proofs.further.further_refused.Statement.{statement}
-use Rattle.further_read.proofs.further.further_refused.Tie as tie
+use Rattle.further_read.proofs.further.further_refused.Goals as goal
 
-pub further_refused_spec : {M : Type 1} → statement M
+pub returns : goal.returns
 unfolding further_told answer_of value_of no_further windows_of window_in rests_of rest_in place_in blank_window count
-further_refused_spec = tie.close (tie.spec (λ c. refl))
+returns c = refl

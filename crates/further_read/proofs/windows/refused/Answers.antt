@@ -6,9 +6,8 @@ use Rattle.model.specs.Numbered.{place_in}
 use Rattle.model.specs.Window.{window_in, windows_of}
 use Rattle.frame_read.specs.Answer.{next_of, value_of}
 use Rattle.further_read.specs.Windows.{windows_told}
-use Rattle.further_read.proofs.windows.refused.Statement.{statement}
-use Rattle.further_read.proofs.windows.refused.Tie as tie
+use Rattle.further_read.proofs.windows.refused.Goals as goal
 
-pub refused_spec : {M : Type 1} → statement M
+pub returns : goal.returns
 unfolding windows_told next_of value_of windows_of window_in place_in blank_window count
-refused_spec = tie.close (tie.spec (λ c. refl))
+returns c = refl

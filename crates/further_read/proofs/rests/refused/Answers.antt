@@ -5,9 +5,8 @@ use Rattle.model.specs.Numbered.{place_in}
 use Rattle.model.specs.Rest.{rest_in, rests_of}
 use Rattle.frame_read.specs.Answer.{next_of, value_of}
 use Rattle.further_read.specs.Rests.{rests_told}
-use Rattle.further_read.proofs.rests.refused.Statement.{statement}
-use Rattle.further_read.proofs.rests.refused.Tie as tie
+use Rattle.further_read.proofs.rests.refused.Goals as goal
 
-pub refused_spec : {M : Type 1} → statement M
+pub returns : goal.returns
 unfolding rests_told next_of value_of rests_of rest_in place_in count
-refused_spec = tie.close (tie.spec (λ c. refl))
+returns c = refl
