@@ -6,12 +6,8 @@ use Rattle.model.specs.Numbered.{place_in}
 use Rattle.model.specs.Window.{window_in, windows_of}
 use Rattle.model.specs.Rest.{rest_in, rests_of}
 use Rattle.model.specs.Format.{no_further, batch_of}
-use Rattle.reading.proofs.batch.blank_batch.Statement.{statement}
-use Rattle.reading.proofs.batch.blank_batch.Tie as tie
+use Rattle.reading.proofs.batch.blank_batch.Goals as goal
 
-returns : tie.Need-returns
+pub returns : goal.returns
 unfolding batch_of pad blank_job blank_delay no_further windows_of window_in rests_of rest_in place_in blank_window count
 returns c = refl
-
-pub blank_batch_spec : {M : Type 1} → statement M
-blank_batch_spec = tie.close (tie.spec returns)

@@ -4,12 +4,8 @@ use Rattle.model.specs.Common.{pad}
 use Rattle.model.specs.Batch.{blank_job}
 use Rattle.frame_read.specs.Answer.{next_of}
 use Rattle.reading.specs.Read.{array_of, jobs_told}
-use Rattle.reading.proofs.jobs.refused.Statement.{statement}
-use Rattle.reading.proofs.jobs.refused.Tie as tie
+use Rattle.reading.proofs.jobs.refused.Goals as goal
 
-returns : tie.Need-returns
+pub returns : goal.returns
 unfolding jobs_told next_of array_of pad blank_job
 returns c = refl
-
-pub refused_spec : {M : Type 1} → statement M
-refused_spec = tie.close (tie.spec returns)
