@@ -2,8 +2,6 @@
 use borrow.Author.Rules.{rules}
 use native.Mathlib.Omega.{arith}
 use mathlib.Core.Path.{◌≡◌, ◌∙◌, ap}
-use Prim.Native.Nat.{◌≤◌, ◌-◌, max}
-use lib.ListN.{get_or}
 use Rattle.times.specs.Fill.{filled}
 use Rattle.rounds.specs.Rounds.{highest_of}
 use Rattle.times.proofs.FillLaws.{filled_none, filled_more}

@@ -2,8 +2,6 @@
 use borrow.Author.Rules.{rules}
 use native.Mathlib.Omega.{arith}
 use mathlib.Core.Path.{◌≡◌, refl, ◌∙◌, ap}
-use Prim.Native.Nat.{◌+◌, ◌≤◌, ◌-◌}
-use lib.ListN.{get_or}
 use Rattle.times.specs.Fill.{filled}
 use Rattle.rounds.specs.Rounds.{lifted_of}
 use Rattle.times.proofs.FillLaws.{filled_none, filled_more}

@@ -1,12 +1,8 @@
 -- `lifted` meets its contract. The loop's invariant: the first j places are filled.
-use borrow.Author.Rules.{rules}
-use native.Mathlib.Omega.{arith}
-use mathlib.Core.Path.{◌≡◌, refl, ◌∙◌, ap}
+use mathlib.Core.Path.{◌≡◌}
 use Prim.Native.Nat.{◌+◌, ◌≤◌, ◌-◌}
 use lib.ListN.{get_or}
 use Rattle.times.specs.Fill.{filled}
-use Rattle.rounds.specs.Rounds.{lifted_of}
-use Rattle.times.proofs.FillLaws.{filled_none, filled_more}
 use Rattle.rounds.proofs.rounds.lifted.Given as goal
 
 abbrev pub invariant-loop-j : goal.invariant-loop-j

@@ -2,10 +2,8 @@
 use borrow.Author.Rules.{rules}
 use native.Mathlib.Omega.{arith}
 use mathlib.Core.Path.{◌≡◌, ◌∙◌, ap}
-use Prim.Native.Nat.{◌+◌, ◌≤◌, ◌-◌, max}
-use lib.ListN.{get_or}
 use Rattle.times.specs.Fill.{filled}
-use Rattle.rounds.specs.Rounds.{sum_at, four_raised}
+use Rattle.rounds.specs.Rounds.{four_raised}
 use Rattle.times.proofs.FillLaws.{filled_none, filled_more}
 use Rattle.rounds.proofs.RoundLaws.{four_place}
 use Rattle.rounds.proofs.rounds.raised.Goals as goal

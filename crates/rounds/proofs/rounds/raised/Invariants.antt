@@ -1,13 +1,9 @@
 -- `raised` meets its contract. The loop's invariant: the first j places are filled.
-use borrow.Author.Rules.{rules}
-use native.Mathlib.Omega.{arith}
-use mathlib.Core.Path.{◌≡◌, ◌∙◌, ap}
+use mathlib.Core.Path.{◌≡◌}
 use Prim.Native.Nat.{◌+◌, ◌≤◌, ◌-◌, max}
 use lib.ListN.{get_or}
 use Rattle.times.specs.Fill.{filled}
-use Rattle.rounds.specs.Rounds.{sum_at, four_raised}
-use Rattle.times.proofs.FillLaws.{filled_none, filled_more}
-use Rattle.rounds.proofs.RoundLaws.{four_place}
+use Rattle.rounds.specs.Rounds.{sum_at}
 use Rattle.rounds.proofs.rounds.raised.Given as goal
 
 abbrev pub invariant-loop-j : goal.invariant-loop-j

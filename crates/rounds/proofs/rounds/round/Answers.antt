@@ -2,8 +2,6 @@
 use borrow.Author.Rules.{rules}
 use native.Mathlib.Omega.{arith}
 use mathlib.Core.Path.{◌≡◌, refl}
-use Prim.Native.Nat.{◌*◌, ◌≤◌, ◌-◌}
-use Rattle.rounds.specs.Rounds.{raised_to}
 use Rattle.rounds.proofs.RoundLaws.{raised_none, raised_more, round_is}
 use Rattle.rounds.proofs.rounds.round.Goals as goal
 

@@ -1,10 +1,7 @@
 -- `round` meets its contract. The loop's invariant: the places are those after 4 * q rows, each sum from the old starts.
-use borrow.Author.Rules.{rules}
-use native.Mathlib.Omega.{arith}
-use mathlib.Core.Path.{◌≡◌, refl}
+use mathlib.Core.Path.{◌≡◌}
 use Prim.Native.Nat.{◌*◌, ◌≤◌, ◌-◌}
 use Rattle.rounds.specs.Rounds.{raised_to}
-use Rattle.rounds.proofs.RoundLaws.{raised_none, raised_more, round_is}
 use Rattle.rounds.proofs.rounds.round.Given as goal
 
 abbrev pub invariant-loop-q : goal.invariant-loop-q

@@ -1,12 +1,8 @@
 -- `same` meets its contract. The loop's invariant: the first j numbers agree.
-use borrow.Author.Rules.{rules}
-use native.Mathlib.Omega.{arith}
-use mathlib.Core.Path.{◌≡◌, sym}
+use mathlib.Core.Path.{◌≡◌}
 use mathlib.Core.Bool.{true}
 use Prim.Native.Nat.{◌≤◌, ◌-◌}
-use borrow.Author.Tests.{eq-eqb, ne_eqb}
 use Rattle.rounds.specs.Rounds.{same_to}
-use Rattle.rounds.proofs.RoundLaws.{same_none, same_more, same_never}
 use Rattle.rounds.proofs.rounds.same.Given as goal
 
 abbrev pub invariant-loop-j : goal.invariant-loop-j

@@ -1,0 +1,14 @@
+-- `put_turns` meets its contract. The loop's invariant: the first k turns are in the table.
+use borrow.Author.Rules.{rules}
+use native.Mathlib.Omega.{arith}
+use mathlib.Core.Path.{◌≡◌, refl}
+use Prim.Native.Nat.{◌≤◌, ◌-◌}
+use Rattle.starts.specs.Table.{with_put}
+use Rattle.starts.proofs.TableLaws.{put_none, put_more}
+use Rattle.starts.proofs.table.put_turns.Given as goal
+
+abbrev pub invariant-loop-k : goal.invariant-loop-k
+invariant-loop-k l = (l.k ≤ l.depth) × (l.table ≡ with_put l.from l.to l.code l.initial.table l.k)
+
+abbrev pub decreases-loop-k : goal.decreases-loop-k
+decreases-loop-k l = l.depth - l.k

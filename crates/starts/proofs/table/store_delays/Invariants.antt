@@ -1,0 +1,14 @@
+-- `store_delays` meets its contract. The loop's invariant: the first k delays are in the table.
+use borrow.Author.Rules.{rules}
+use native.Mathlib.Omega.{arith}
+use mathlib.Core.Path.{◌≡◌, refl}
+use Prim.Native.Nat.{◌≤◌, ◌-◌}
+use Rattle.starts.specs.Table.{with_stored}
+use Rattle.starts.proofs.TableLaws.{stored_none, stored_more}
+use Rattle.starts.proofs.table.store_delays.Given as goal
+
+abbrev pub invariant-loop-k : goal.invariant-loop-k
+invariant-loop-k l = (l.k ≤ l.m) × (l.table ≡ with_stored l.from l.to l.code l.initial.table l.k)
+
+abbrev pub decreases-loop-k : goal.decreases-loop-k
+decreases-loop-k l = l.m - l.k
