@@ -1,0 +1,22 @@
+-- `back::go_back` meets its contract. While turns of side 1 are dropped, what going back leaves of the rest is what it leaves of all.
+use mathlib.Core.Path.{refl}
+use native.Mathlib.Omega.{arith}
+use borrow.Author.Rules.{rules}
+use Rattle.node.proofs.BackLaws.{Dropping, last_small, dropped_all, drops, moves}
+use Rattle.node.proofs.back.go_back.Reads as reads
+use Rattle.node.proofs.back.go_back.Goals as goal
+
+pub loop-left-init : goal.loop-left-init
+loop-left-init c = (refl, search rules, refl)
+
+pub overflow_add-turns : goal.overflow_add-turns
+overflow_add-turns c = omega (arith, last_small _ _ c.requires _ _ c.loop-left.invariant (omega arith))
+
+pub returns-then-turn-eq0 : goal.returns-then-turn-eq0
+returns-then-turn-eq0 c = moves _ _ c.requires _ _ c.loop-left.invariant (omega arith) (omega arith)
+
+pub loop-left-preserved : goal.loop-left-preserved
+loop-left-preserved c = drops _ _ c.requires _ _ c.loop-left.invariant (omega arith) (omega arith)
+
+pub returns : goal.returns
+returns c = dropped_all _ _ c.requires _ _ c.loop-left.invariant (omega arith)

@@ -1,0 +1,10 @@
+-- `few_clashes` asks the list's count.
+use mathlib.Core.Path.{refl}
+use Rattle.opening.proofs.WithinLaws.{within_tabled, few_is}
+use Rattle.opening.proofs.few.few_clashes.Goals as goal
+
+pub list_clashes-count-requires : goal.list_clashes-count-requires
+list_clashes-count-requires c = record { tabled = within_tabled _ c.requires; codes_value = refl }
+
+pub returns : goal.returns
+returns c = few_is _ c.requires _ c.list_clashes-count.ensures

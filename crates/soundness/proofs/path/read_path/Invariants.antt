@@ -1,0 +1,15 @@
+-- `path::read_path` meets its contract. The invariant: the first k places are read.
+use Prim.Native.Nat.{◌-◌, ◌≤◌}
+use mathlib.Core.Path.{refl}
+use native.Mathlib.Omega.{arith}
+use borrow.Author.Rules.{rules}
+use Rattle.model.proofs.BoolLaws.{passes}
+use Rattle.soundness.proofs.MarkLaws.{new_clash, new_side}
+use Rattle.soundness.proofs.PathLaws.{Read, read_none, read_more, read_bad, read_empty, read_end_lem}
+use Rattle.soundness.proofs.path.read_path.Given as goal
+
+abbrev pub invariant-loop-k : goal.invariant-loop-k
+invariant-loop-k l = (l.k ≤ 1024) × Read l.path l.count l.turns l.marks l.k
+
+abbrev pub decreases-loop-k : goal.decreases-loop-k
+decreases-loop-k l = 1024 - l.k
