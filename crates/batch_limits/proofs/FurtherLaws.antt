@@ -1,4 +1,5 @@
 -- The edition and the further lines, as the loops over them test them.
+use Rattle.std.specs.Prelude.{if◌then◌else◌}
 use Prim.Native.Nat.{ℕ, ◌≤◌, ◌<◌}
 use mathlib.Core.Path.{◌≡◌, refl, ap, ap₂, sym, ◌∙◌}
 use mathlib.Core.Bool.{Bool, true, false, not, ◌&&◌}
@@ -8,7 +9,7 @@ use lib.Dec.{leb, eqb}
 use borrow.Author.Tests.{eq-eqb, ne_eqb}
 use Rattle.model.specs.declared.Window.{Window}
 use Rattle.model.specs.declared.Batch.{Batch}
-use Rattle.model.specs.Common.{if◌then◌else◌, all, count, keep, is_empty}
+use Rattle.model.specs.Common.{all, count, keep, is_empty}
 use Rattle.model.specs.Limits.{most_rest, stations}
 use Rattle.model.specs.Batch.{rest_of, window_of, lined, earliest, latest}
 use Rattle.model.specs.Window.{window_line, window_lines, ends_ok, window_ok}
@@ -78,22 +79,22 @@ module _ (b : Batch) where
 
 module _ (w : Window) where
   pub ends_lined : (w.lined ≡ 0 → ⊥) → (x : Bool) → x ≡ ends_ok w.earliest w.latest → x ≡ ends_pass w
-  unfolding ends_pass if◌then◌else◌
+  unfolding ends_pass
   ends_lined n x e = e ∙ rw (ne_eqb w.lined 0 n)
 
   pub ends_free : w.lined ≡ 0 → w.earliest ≡ 0 → eqb w.latest 65535 ≡ ends_pass w
-  unfolding ends_pass if◌then◌else◌
+  unfolding ends_pass
   ends_free e z = rw (eq-eqb w.lined 0 e, eq-eqb w.earliest 0 z)
 
   pub ends_late : w.lined ≡ 0 → (w.earliest ≡ 0 → ⊥) → eqb w.earliest 0 ≡ ends_pass w
-  unfolding ends_pass if◌then◌else◌
+  unfolding ends_pass
   ends_late e z = rw (eq-eqb w.lined 0 e, ne_eqb w.earliest 0 z)
 
 -- ---- no lines
 
 -- nothing that is kept of some numbers: each fails the test
 pub none_kept : {A : Type 0} (none : ℕ → Bool) (line : ℕ → A) (xs : List ℕ) → all none xs ≡ is_empty (map line (keep (λ i. not (none i)) xs))
-unfolding all keep if◌then◌else◌ is_empty
+unfolding all keep is_empty
 none_kept none line [] = refl
 none_kept none line (x ∷ xs) = go (none x) (none_kept none line xs)
   where

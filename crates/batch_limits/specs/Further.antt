@@ -1,8 +1,8 @@
 -- Parts of the definition of a sound record that one loop over further lines tests.
-use Rattle.std.specs.Prelude.{Bool, not, ◌&&◌, eqb}
+use Rattle.std.specs.Prelude.{Bool, not, ◌&&◌, eqb, if◌then◌else◌}
 use Rattle.model.specs.declared.Window.{Window}
 use Rattle.model.specs.declared.Batch.{Batch}
-use Rattle.model.specs.Common.{all, count, is_empty, if◌then◌else◌}
+use Rattle.model.specs.Common.{all, count, is_empty}
 use Rattle.model.specs.Limits.{no_latest, stations}
 use Rattle.model.specs.Window.{window_lines, ends_ok, window_ok}
 use Rattle.model.specs.Rest.{rest_lines, rest_ok}

@@ -1,4 +1,5 @@
 -- The B1 lines of a text, as a loop reads them: what is read so far stands before what is still to be read.
+use Rattle.std.specs.Prelude.{if◌then◌else◌}
 use Prim.Native.Nat.{ℕ, ◌+◌, ◌≤◌, ◌<◌}
 use mathlib.Core.Path.{◌≡◌, refl, ap, ap₂, sym, ◌∙◌}
 use mathlib.Core.Bool.{Bool, true, ◌&&◌}
@@ -10,7 +11,7 @@ use lib.ListN.{length, take, drop, set, replicate, length-append, length-map, le
 use lib.Seq.{take_all, take-append-le}
 use lib.Dec.{ltb, eqb}
 use borrow.Author.Tests.{lt-ltb, le-ltb}
-use Rattle.model.specs.Common.{if◌then◌else◌, count, pad, Outcome, refuse, accept, ◌>>=◌}
+use Rattle.model.specs.Common.{count, pad, Outcome, refuse, accept, ◌>>=◌}
 use Rattle.model.specs.Limits.{most_jobs}
 use Rattle.model.specs.Starts.{same}
 use Rattle.model.specs.Open.{read_one}
@@ -34,7 +35,7 @@ same_snoc (a ∷ xs) (b ∷ ys) x y e = ap (λ (t : Bool). eqb a b && t) (same_s
 
 -- the start of line k beside those before it, as far as there is room
 store_more : (xs : List ℕ) (k x : ℕ) → length xs ≡ k → stored (pad most_jobs 0 (take most_jobs xs)) k x ≡ pad most_jobs 0 (take most_jobs (xs ++ (x ∷ [])))
-unfolding stored if◌then◌else◌
+unfolding stored
 store_more xs k x e = go (dec_lt k most_jobs)
   where
     go : Dec (k < most_jobs) → (if ltb k most_jobs then set (pad most_jobs 0 (take most_jobs xs)) k x else pad most_jobs 0 (take most_jobs xs)) ≡ pad most_jobs 0 (take most_jobs (xs ++ (x ∷ [])))

@@ -1,6 +1,6 @@
 -- All B1 lines of a plan text: what is kept of them.
-use Rattle.std.specs.Prelude.{ℕ, true, false, List, map, length, take, set, replicate, ltb}
-use Rattle.model.specs.Common.{if◌then◌else◌, count, pad, Outcome, refuse, accept}
+use Rattle.std.specs.Prelude.{ℕ, true, false, List, map, length, take, set, replicate, ltb, if◌then◌else◌}
+use Rattle.model.specs.Common.{count, pad, Outcome, refuse, accept}
 use Rattle.model.specs.Limits.{most_jobs}
 use Rattle.model.specs.Starts.{same}
 use Rattle.claims.specs.declared.job_lines.Lines.{Lines}

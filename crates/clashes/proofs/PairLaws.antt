@@ -1,5 +1,6 @@
 -- The loop over the distances of a pair adds the pair's codes, and these are the codes of the model's clashes of the two jobs: the one's table, widened by the rests, meets
 -- the other's exactly where the jobs clash.
+use Rattle.std.specs.Prelude.{if◌then◌else◌}
 use Prim.Native.Nat.{ℕ, zero, suc, ◌+◌, ◌-◌, ◌*◌, ◌≤◌, ◌<◌}
 use mathlib.Core.Path.{◌≡◌, refl, sym, ap, ◌∙◌}
 use mathlib.Core.Bool.{Bool, true, false}
@@ -9,7 +10,7 @@ use native.Mathlib.Omega.{arith}
 use lib.IntN.{ℤ, sub_ℕ}
 use Rattle.model.specs.declared.Job.{Job}
 use Rattle.model.specs.declared.Batch.{Batch}
-use Rattle.model.specs.Common.{if◌then◌else◌, count, keep}
+use Rattle.model.specs.Common.{count, keep}
 use Rattle.model.specs.Batch.{job_of, ticks, mask, rest_of}
 use Rattle.model.specs.Clash.{Clash, clashing, distances, clashes_of}
 use Rattle.model.proofs.BoolLaws.{same_test}
@@ -53,14 +54,14 @@ module _ (low end : ℕ) (places : List ℕ) (second : Job) (base : ℕ) where
 
     -- the tables meet: the code is put
     pub pair_in : r ≡ true → m ≡ put l (base + k) → Pairing from m (k + 1)
-    unfolding add_all put pair_from keep if◌then◌else◌
+    unfolding add_all put pair_from keep
     pair_in t q =
         turn (omega (arith, ap (λ (x : Clashes). x.count) q))
         (ap (λ (x : Clashes). add_all x (pair_from (k + 1))) q ∙ (rw (count_more k 45 h, sym e ∙ t)))
 
     -- they do not: the list stays
     pub pair_out : r ≡ false → m ≡ l → Pairing from m (k + 1)
-    unfolding pair_from keep if◌then◌else◌
+    unfolding pair_from keep
     pair_out t q =
         turn (omega (arith, ap (λ (x : Clashes). x.count) q))
         (ap (λ (x : Clashes). add_all x (pair_from (k + 1))) q ∙ (rw (count_more k 45 h, sym e ∙ t)))

@@ -1,13 +1,14 @@
 -- Kept and mapped lists, in either order and in parts.
+use Rattle.std.specs.Prelude.{if◌then◌else◌}
 use mathlib.Core.Path.{◌≡◌, refl}
 use mathlib.Core.Bool.{Bool, true, false}
 use mathlib.Core.List.{List, [], ◌∷◌, ◌++◌, map}
-use Rattle.model.specs.Common.{if◌then◌else◌, keep}
+use Rattle.model.specs.Common.{keep}
 
 module _ {A B : Type 0} where
   -- keeping and mapping in either order
   pub keep_map : (f : B → Bool) (g : A → B) (xs : List A) → keep f (map g xs) ≡ map g (keep (λ x. f (g x)) xs)
-  unfolding keep if◌then◌else◌
+  unfolding keep
   keep_map f g [] = refl
   keep_map f g (x ∷ xs) = go (f (g x)) (keep_map f g xs)
     where

@@ -1,4 +1,5 @@
 -- Codes put one after the other count them all and leave the first 1,024 in their places.
+use Rattle.std.specs.Prelude.{if◌then◌else◌}
 use Prim.Native.Nat.{ℕ, ◌+◌, ◌≤◌, ◌<◌}
 use mathlib.Core.Path.{◌≡◌, refl, sym, ap, ◌∙◌}
 use mathlib.Core.List.{List, [], ◌∷◌, ◌++◌, append_assoc, append-nil}
@@ -7,7 +8,7 @@ use native.Mathlib.Decide.{dec_lt}
 use lib.ListN.{length, take, set, replicate, length-append}
 use lib.Seq.{take_all, take-append-le}
 use borrow.Author.Tests.{lt-ltb, le-ltb}
-use Rattle.model.specs.Common.{if◌then◌else◌, pad}
+use Rattle.model.specs.Common.{pad}
 use Rattle.model.proofs.SeqLaws.{pad_put}
 use Rattle.clashes.specs.declared.Clashes.{Clashes}
 use Rattle.clashes.specs.List.{listing, put, add_all}
@@ -22,11 +23,11 @@ listing_same p q = rw (p, q)
 
 -- one code more, as the code stores it
 pub put_in : (n x : ℕ) (codes codes' : List ℕ) → n < 1024 → codes' ≡ set codes n x → listing (n + 1) codes' ≡ put (listing n codes) x
-unfolding put if◌then◌else◌
+unfolding put
 put_in n x codes codes' h e = rw (lt-ltb n 1024 h, e)
 
 pub put_out : (n x : ℕ) (codes codes' : List ℕ) → 1024 ≤ n → codes' ≡ codes → listing (n + 1) codes' ≡ put (listing n codes) x
-unfolding put if◌then◌else◌
+unfolding put
 put_out n x codes codes' h e = rw (le-ltb n 1024 h, e)
 
 -- codes in two parts

@@ -1,10 +1,10 @@
 -- The clash list as the code holds it: all clashes are counted, and the first 1,024 are stored as codes.
 -- First the list of a batch, which is what callers see; then how the code makes it, code after code.
-use Rattle.std.specs.Prelude.{ℕ, suc, ◌+◌, ◌-◌, ◌≤◌, ◌<◌, ◌≡◌, List, [], ◌∷◌, map, length, take, set, ltb}
+use Rattle.std.specs.Prelude.{ℕ, suc, ◌+◌, ◌-◌, ◌≤◌, ◌<◌, ◌≡◌, List, [], ◌∷◌, map, length, take, set, ltb, if◌then◌else◌}
 use Rattle.std.proofs.Math.IntN.{sub_ℕ}
 use Rattle.model.specs.declared.Job.{Job}
 use Rattle.model.specs.declared.Batch.{Batch}
-use Rattle.model.specs.Common.{if◌then◌else◌, count, keep, joined, pad}
+use Rattle.model.specs.Common.{count, keep, joined, pad}
 use Rattle.model.specs.Limits.{most_jobs, most_ticks, stations, most_rest, most_clashes}
 use Rattle.model.specs.Batch.{ticks, rest_of}
 use Rattle.model.specs.Clash.{clashes, clashes_of}

@@ -1,4 +1,5 @@
 -- Two's complement, as the machine takes it down by 65,536. All by the ranges of the two-byte number.
+use Rattle.std.specs.Prelude.{if◌then◌else◌}
 use Prim.Native.Nat.{ℕ, suc, ◌-◌, ◌≤◌, ◌<◌}
 use mathlib.Core.Path.{◌≡◌, ap, ◌∙◌}
 use native.Mathlib.Omega.{arith}
@@ -7,12 +8,11 @@ use lib.IntN.{ℤ, pos, negsuc, ◌-ℤ◌}
 use mir.Syntax.{w16, w32}
 use mir.Val.{SFits, to_z, of_z}
 use mir.ValLaws.{to_z-of_z, to_z_pos}
-use Rattle.model.specs.Common.{if◌then◌else◌}
 use Rattle.model.specs.Open.{signed}
 
 -- the lower half of the numbers stands for itself
 pub signed_low : (v : ℕ) → v < 32768 → to_z w16 v ≡ signed v
-unfolding signed if◌then◌else◌
+unfolding signed
 signed_low v h = rw (lt-ltb v 32768 h)
 
 -- the upper half
@@ -42,6 +42,6 @@ module _ (v : ℕ) (high : 32768 ≤ v) (wide : v < 65536) where
 
   -- it is the number in two's complement
   pub signed_high : to_z w16 (of_z w16 (to_z w32 (of_z w32 (to_z w32 v -ℤ pos 65536)))) ≡ signed v
-  unfolding signed if◌then◌else◌
+  unfolding signed
   signed_high =
       ap (λ (z : ℤ). to_z w16 (of_z w16 z)) down_is ∙ to_z-of_z w16 (negsuc (65535 - v)) small ∙ rw (le-ltb v 32768 high)

@@ -1,4 +1,5 @@
 -- The further lines as the pieces that the loops put: what both kinds have in common, the window lines, and the rest lines.
+use Rattle.std.specs.Prelude.{if◌then◌else◌}
 use Prim.Native.Nat.{ℕ}
 use mathlib.Core.Path.{◌≡◌, refl, ap, sym, ◌∙◌}
 use mathlib.Core.Bool.{Bool, true, false, not}
@@ -8,7 +9,7 @@ use lib.Dec.{eqb}
 use borrow.Author.Tests.{eq-eqb, ne_eqb}
 use Rattle.model.specs.declared.Batch.{Batch}
 use Rattle.model.specs.declared.Window.{Window}
-use Rattle.model.specs.Common.{if◌then◌else◌, count, keep, joined}
+use Rattle.model.specs.Common.{count, keep, joined}
 use Rattle.model.specs.Limits.{stations}
 use Rattle.model.specs.Batch.{blank_window, rest_of, window_of, lined, earliest, latest}
 use Rattle.model.specs.Window.{window_text, window_line, window_lines}
@@ -26,7 +27,7 @@ use Rattle.further_put.specs.Rests.{rest_piece}
 
 -- the lines of those numbers that have one are pieces
 kept_text : {A : Type 0} (text : A → List ℕ) (line : ℕ → A) (has : ℕ → Bool) (n : ℕ) → joined text (map line (keep has (count 0 n))) ≡ pieces (λ i. if has i then text (line i) else []) n
-unfolding keep joined pieces if◌then◌else◌
+unfolding keep joined pieces
 kept_text text line has n = go (count 0 n)
   where
     go : (xs : List ℕ) → joined text (map line (keep has xs)) ≡ joined (λ i. if has i then text (line i) else []) xs
@@ -40,16 +41,16 @@ kept_text text line has n = go (count 0 n)
 
 -- with a line and without
 pub line_some : (number : ℕ) (line : List ℕ) → (number ≡ 0 → ⊥) → line_if number line ≡ line
-unfolding line_if if◌then◌else◌
+unfolding line_if
 line_some number line h = rw (ne_eqb number 0 h)
 
 pub line_none : (number : ℕ) (line : List ℕ) → number ≡ 0 → line_if number line ≡ []
-unfolding line_if if◌then◌else◌
+unfolding line_if
 line_none number line h = rw (eq-eqb number 0 h)
 
 -- its bytes
 pub line_size : (number size : ℕ) (line : List ℕ) → length line ≡ size → size_if number size ≡ length (line_if number line)
-unfolding line_if size_if if◌then◌else◌
+unfolding line_if size_if
 line_size number size line e = go (not (eqb number 0))
   where
     go : (t : Bool) → (if t then size else 0) ≡ length (if t then line else [])
@@ -70,7 +71,7 @@ abbrev pub read_window : Batch → ℕ → Window
 read_window b i = get_or b.windows i (record { lined = 0; earliest = 0; latest = 0 })
 
 pub read_window_lem : (b : Batch) (i : ℕ) → window_piece i (read_window b i) ≡ line_piece b i
-unfolding window_of blank_window window_piece line_if if◌then◌else◌
+unfolding window_of blank_window window_piece line_if
 read_window_lem b i = get_d_default (window_piece i) b.windows i (record { lined = 0; earliest = 0; latest = 0 }) blank_window refl
 
 pub window_size : (b : Batch) (i : ℕ) → size_if (read_window b i).lined 13 ≡ length (line_piece b i)

@@ -1,6 +1,5 @@
 -- A line that stands only where a number is not 0, a job's flag or a station's rest, and the number of its bytes.
-use Rattle.std.specs.Prelude.{ℕ, not, List, [], eqb}
-use Rattle.model.specs.Common.{if◌then◌else◌}
+use Rattle.std.specs.Prelude.{ℕ, not, List, [], eqb, if◌then◌else◌}
 
 unfoldable pub line_if : ℕ → List ℕ → List ℕ
 line_if number line = if not (eqb number 0) then line else []

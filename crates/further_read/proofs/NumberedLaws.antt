@@ -1,4 +1,5 @@
 -- Further lines of a kind whose numbers rise: what one line more makes of the lowest number that is left and of the record's places.
+use Rattle.std.specs.Prelude.{if◌then◌else◌}
 use Prim.Native.Nat.{ℕ, suc, ◌≤◌, ◌<◌}
 use mathlib.Core.Path.{◌≡◌, refl, ap, sym, ◌∙◌}
 use mathlib.Core.Bool.{Bool, true, false, ◌&&◌}
@@ -9,7 +10,7 @@ use lib.ListN.{length, get_or, set, length-set}
 use lib.Seq.{ext_get_or, get_or-set_same, get_or-set_other}
 use lib.Dec.{leb, ltb, eqb}
 use borrow.Author.Tests.{ltb-true, ltb-false, le-leb, lt-leb, eq-eqb, ne_eqb}
-use Rattle.model.specs.Common.{if◌then◌else◌, count, all}
+use Rattle.model.specs.Common.{count, all}
 use Rattle.model.specs.Numbered.{place_in}
 use Rattle.model.proofs.BoolLaws.{apart, and_false}
 use Rattle.model.proofs.SeqLaws.{listed_at, listed_length}
@@ -54,13 +55,13 @@ module _ {A : Type 0} (number : A → ℕ) where
 
     -- another number's place stays
     in_other : (xs : List A) (x : A) (i : ℕ) → eqb (number x) i ≡ false → place_of (xs ++ (x ∷ [])) i ≡ place_of xs i
-    unfolding place_in if◌then◌else◌
+    unfolding place_in
     in_other [] x i h = rw h
     in_other (y ∷ xs) x i h = ap (λ (p : P). if eqb (number y) i then place y else p) (in_other xs x i h)
 
     -- the line's own place is the line's, where the numbers before it are others
     in_own : (xs : List A) (x : A) → all (λ y. ltb (number y) (number x)) xs ≡ true → place_of (xs ++ (x ∷ [])) (number x) ≡ place x
-    unfolding place_in if◌then◌else◌ all
+    unfolding place_in all
     in_own [] x h = rw (eq-eqb (number x) (number x) refl)
     in_own (y ∷ xs) x h = go (ltb (number y) (number x)) refl h (in_own xs x)
       where

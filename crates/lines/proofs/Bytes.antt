@@ -1,4 +1,5 @@
 -- The bytes of a line's characters: there are some exactly where the count is even and all are digits, half as many, each the value of two.
+use Rattle.std.specs.Prelude.{if◌then◌else◌}
 use Prim.Native.Nat.{ℕ, zero, suc, ◌+◌, ◌*◌, ◌%◌}
 use mathlib.Core.Path.{◌≡◌, refl, ap₂, sym, ◌∙◌}
 use mathlib.Core.Bool.{true, false}
@@ -6,7 +7,7 @@ use mathlib.Core.Option.{Option, none, some}
 use mathlib.Core.List.{List, [], ◌∷◌}
 use native.Mathlib.Omega.{arith}
 use lib.ListN.{length, get_or}
-use Rattle.model.specs.Common.{if◌then◌else◌, between, all, is_some}
+use Rattle.model.specs.Common.{between, all, is_some}
 use Rattle.model.specs.Line.{digit, byte, bytes_of}
 use Rattle.lines.specs.Read.{value, is_digit, byte_at}
 use Rattle.lines.proofs.Digit.{value_by, test_by}
@@ -63,7 +64,7 @@ known_more h l cs none hx y hy r w = λ a e. digit_not h hx (all_uncons is_digit
 
 -- the bytes of characters are known so
 pub known : (cs : List ℕ) → Known cs (bytes_of cs)
-unfolding bytes_of all byte_at value digit between if◌then◌else◌
+unfolding bytes_of all byte_at value digit between
 known [] = record { size = refl; digits = refl; each = λ k. refl }
 known (h ∷ []) = λ a e. omega arith
 known (h ∷ l ∷ cs) = known_more h l cs (digit h) refl (digit l) refl (bytes_of cs) (known cs)

@@ -1,4 +1,5 @@
 -- The first line of a file that was read: as many digits as the code counts, closed by a 0A, and each byte the value of two digits.
+use Rattle.std.specs.Prelude.{if◌then◌else◌}
 use Prim.Native.Nat.{ℕ, zero, suc, ◌+◌, ◌*◌, ◌%◌, ◌<◌}
 use mathlib.Core.Path.{◌≡◌, refl, ap, ap₂, sym, ◌∙◌, subst}
 use mathlib.Core.Bool.{Bool, true, false, not}
@@ -9,7 +10,7 @@ use lib.ListN.{length, get_or, drop, length-drop}
 use lib.Seq.{drop-drop}
 use lib.Dec.{eqb}
 use borrow.Author.Tests.{eqb-true, not-false, eq-eqb, ne_eqb}
-use Rattle.model.specs.Common.{if◌then◌else◌, between, all, up_to, is_some}
+use Rattle.model.specs.Common.{between, all, up_to, is_some}
 use Rattle.model.specs.Line.{digit, bytes_of, line_of, frame_bytes, read_line}
 use Rattle.lines.specs.Read.{value, is_digit, byte_at}
 use Rattle.lines.proofs.UpTo.{up_to_next, up_to_at, up_to_agree, up_to_all, all_weaken}
@@ -41,7 +42,7 @@ frame_parts (some (b ∷ bs)) (c ∷ r) bytes rest e =
 
 -- 0A is no digit
 end_not_digit : (c : ℕ) → c ≡ 10 → is_digit c ≡ false
-unfolding is_digit is_some digit between if◌then◌else◌
+unfolding is_digit is_some digit between
 end_not_digit c e = ap is_digit e
 
 -- the bytes of the items before the first that fails are those of the list

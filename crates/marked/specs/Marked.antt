@@ -1,11 +1,11 @@
 -- Marked batches: C1 to C10 of 01 and rows of our own that rule out misreadings which those leave standing. One table, and the theorem that
 -- every row is what the definitions give; then plan texts beside files (02, Q-1), what the program prints for C3, and that the bound on N is reached.
-use Rattle.std.specs.Prelude.{ℕ, ◌≡◌, refl, Bool, true, ◌&&◌, List, [], ◌∷◌, ◌++◌, map, length, drop, eqb}
+use Rattle.std.specs.Prelude.{ℕ, ◌≡◌, refl, Bool, true, ◌&&◌, List, [], ◌∷◌, ◌++◌, map, length, drop, eqb, if◌then◌else◌}
 use Prim.Native.Char.{code}
 use Prim.Native.String.{String, [] as end, ◌∷◌ as ◌then◌}
 use Rattle.model.specs.declared.Batch.{Batch}
 use Rattle.model.specs.declared.Search.{Search}
-use Rattle.model.specs.Common.{if◌then◌else◌, Outcome, refuse, accept, ◌>>=◌}
+use Rattle.model.specs.Common.{Outcome, refuse, accept, ◌>>=◌}
 use Rattle.model.specs.Search.{nodes, fresh_search, Ends, node_limit}
 use Rattle.model.specs.Open.{opened}
 use Rattle.model.specs.Run.{ran}

@@ -1,5 +1,6 @@
 -- Going back: the turns after the last one on side 0 are dropped, and that one is set to side 1. What follows from it for the nodes
 -- that a path leaves open, which is why a search ends and why it misses no plan.
+use Rattle.std.specs.Prelude.{if◌then◌else◌}
 use Prim.Native.Nat.{ℕ, zero, suc, ◌+◌, ◌-◌, ◌^◌, ◌≤◌, ◌<◌}
 use mathlib.Core.Path.{◌≡◌, refl, ap}
 use mathlib.Core.Logic.{◌⊎◌, inl, inr}
@@ -14,7 +15,6 @@ use lib.ListN.{length}
 use lib.Dec.{eqb}
 use borrow.Author.Tests.{eqb-true, eqb-false}
 use Rattle.model.specs.declared.Turn.{Turn}
-use Rattle.model.specs.Common.{if◌then◌else◌}
 use Rattle.model.specs.Search.{next_side, moved_on, turned_back}
 use Rattle.model.proofs.StartsLaws.{Different}
 
@@ -39,7 +39,7 @@ BackTo ts none = Done ts
 BackTo ts (some us) = Backed ts us
 
 pub back_is : (ts : List Turn) → BackTo ts (turned_back ts)
-unfolding turned_back next_side moved_on if◌then◌else◌
+unfolding turned_back next_side moved_on
 back_is [] = tt
 back_is (t ∷ ts) = go (turned_back ts) (back_is ts) (eqb t.side 0) refl
   where
@@ -101,14 +101,14 @@ down r = omega arith
 
 -- one more turn on side 0 leaves one node less
 pub left_append : (r : ℕ) (ts : List Turn) (k : ℕ) → length ts < r → suc (left r (ts ++ (record { clash = k; side = 0 } ∷ []))) ≡ left r ts
-unfolding left pending if◌then◌else◌ tree
+unfolding left pending tree
 left_append zero [] k h = absurd (omega arith)
 left_append (suc r) [] k h = omega (arith, ap (λ (z : ℕ). 2 ^ suc z) (down r), pow-suc 2 (suc r), pow_pos (suc r))
 left_append r (t ∷ ts) k h = omega (arith, left_append (r - 1) ts k (omega arith))
 
 -- going back leaves less
 pub left_back : (r : ℕ) {ts us : List Turn} → Backed ts us → length ts ≤ r → left r us < left r ts
-unfolding left pending if◌then◌else◌ tree
+unfolding left pending tree
 left_back zero (here e d) h = absurd (omega arith)
 left_back (suc r) (here {t} {ts} e d) h =
     rw e (omega (arith, ap (λ (z : ℕ). 2 ^ suc z) (down r), left_pos (suc r - 1) ts))

@@ -1,5 +1,6 @@
 -- Demand 3: whatever list of run calls a freshly opened search gets, its record is the one that 01's steps reach with the smaller of S and
 -- N nodes, and the last answer follows from it. An invariant that each call keeps.
+use Rattle.std.specs.Prelude.{if◌then◌else◌}
 use Prim.Native.Nat.{ℕ, ◌+◌, ◌≤◌, ◌<◌, min}
 use mathlib.Core.Path.{◌≡◌, refl, ap, sym, ◌∙◌, subst}
 use mathlib.Core.Logic.{◌↔◌}
@@ -16,7 +17,7 @@ use Rattle.model.specs.declared.Best.{Best}
 use Rattle.model.specs.declared.Best.TheVariants.{Nothing, Latency}
 use Rattle.model.specs.declared.Search.{Search}
 use Rattle.model.specs.declared.Ran.{Ran}
-use Rattle.model.specs.Common.{if◌then◌else◌, Outcome, refuse, accept, ◌>>=◌, require}
+use Rattle.model.specs.Common.{Outcome, refuse, accept, ◌>>=◌, require}
 use Rattle.model.specs.Limits.{most_budget, most_total}
 use Rattle.model.specs.Plan.{Valid, Shortest, latency}
 use Rattle.model.specs.Clash.{clashes}
@@ -225,7 +226,7 @@ module _ (b : Batch) (passes : Passes b) (n : ℕ) (end : End b (fits b passes) 
       pub answer : p ≡ false → AnswerFor b n (if p then s else s + c.budget) (run_told (call (at (min s n)) c).0.answer) (call (at (min s n)) c).1
 
     called_by : (p : Bool) → Checked p (run_refusal (at (min s n)) c.budget (length c.starts)) → OneCall p
-    unfolding if◌then◌else◌ call ran ran_as run_told answered refuses
+    unfolding call ran ran_as run_told answered refuses
     called_by true (k, f) =
         let whole : call (at (min s n)) c ≡ ran_as (refuse k) (at (min s n)) c.budget c.starts = ap (λ o. ran_as o (at (min s n)) c.budget c.starts) f in
         record {

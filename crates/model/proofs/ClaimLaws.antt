@@ -1,4 +1,5 @@
 -- Plan texts both ways: what is read as a claim is exactly the text of that claim, each number fitting its bytes.
+use Rattle.std.specs.Prelude.{if◌then◌else◌}
 use Prim.Native.Nat.{ℕ, zero, suc, ◌+◌, ◌*◌, ◌/◌, ◌%◌, ◌<◌}
 use mathlib.Core.Path.{◌≡◌, refl, ap, ap₂, sym, ◌∙◌, subst}
 use mathlib.Core.Logic.{◌↔◌}
@@ -8,7 +9,7 @@ use native.Mathlib.Omega.{arith}
 use lib.ListN.{length}
 use lib.Dec.{eqb}
 use borrow.Author.Tests.{eqb-true, not-true}
-use Rattle.model.specs.Common.{if◌then◌else◌, count, keep, joined, is_empty, Outcome, refuse, accept, ◌>>=◌, require}
+use Rattle.model.specs.Common.{count, keep, joined, is_empty, Outcome, refuse, accept, ◌>>=◌, require}
 use Rattle.model.specs.Line.{at, wide, frame_is, digit_of, digits_of, line, two, four}
 use Rattle.model.specs.Open.{read_one, read_all}
 use Rattle.model.specs.Judge.{Claim, claim_text, Claims, claim_head, claim_line, read_lines, read_claim}
@@ -106,12 +107,12 @@ ends cs = length (keep (λ c. eqb c 10) cs)
 
 -- a character other than 0A ends no line
 ends_on : (c : ℕ) (cs : List ℕ) → not (eqb c 10) ≡ true → ends (c ∷ cs) ≡ ends cs
-unfolding keep if◌then◌else◌
+unfolding keep
 ends_on c cs e = rw (not-true (eqb c 10) e)
 
 -- a written line has one 0A
 pub ends_line : (bs rest : List ℕ) → Bytes bs → ends (line bs ++ rest) ≡ suc (ends rest)
-unfolding line digits_of joined keep if◌then◌else◌
+unfolding line digits_of joined keep
 ends_line [] rest h = refl
 ends_line (b ∷ bs) rest h =
     let small : b < 256 = each_head IsByte h in

@@ -1,5 +1,6 @@
 -- A whole batch file both ways. A file is read exactly when it is the text of a batch within the limits, and the batch that it yields
 -- is that one with its unused places blank.
+use Rattle.std.specs.Prelude.{if◌then◌else◌}
 use Prim.Native.Nat.{ℕ, ◌-◌, ◌≤◌}
 use mathlib.Core.Path.{◌≡◌, refl, ap, ap₂, sym, ◌∙◌, subst}
 use mathlib.Core.Logic.{◌⊎◌, inl, inr, ◌↔◌}
@@ -11,7 +12,7 @@ use lib.Dec.{eqb}
 use Rattle.model.specs.declared.Batch.{Batch}
 use Rattle.model.specs.declared.Delay.{Delay}
 use Rattle.model.specs.declared.Job.{Job}
-use Rattle.model.specs.Common.{if◌then◌else◌, count, pad, joined, is_empty, accept, ◌>>=◌, require, given}
+use Rattle.model.specs.Common.{count, pad, joined, is_empty, accept, ◌>>=◌, require, given}
 use Rattle.model.specs.Limits.{most_jobs, most_delays}
 use Rattle.model.specs.Batch.{blank_job, blank_delay, job_of, ticks, mask, delay_of, delays_of}
 use Rattle.model.specs.Line.{read_line}
@@ -93,12 +94,12 @@ module _ (n : ℕ) (few : n ≤ most_jobs) where
 
   -- after the delays, by edition
   rest_forth : (edition : ℕ) (f : Further) → ((edition ≡ 1) × (f ≡ no_further)) ⊎ (edition ≡ 2) → FurtherOk n f → read_rest edition n (further_text f) ≡ accept f
-  unfolding read_rest if◌then◌else◌ further_text no_further joined is_empty require ◌>>=◌
+  unfolding read_rest further_text no_further joined is_empty require ◌>>=◌
   rest_forth edition f (inl (one, none)) ok = ap₂ (λ (e : ℕ) (g : Further). read_rest e n (further_text g)) one none ∙ ap accept (sym none)
   rest_forth edition f (inr two) ok = ap (λ (e : ℕ). read_rest e n (further_text f)) two ∙ further_forth f ok
 
   rest_back : (edition : ℕ) (file : List ℕ) (f : Further) → read_rest edition n file ≡ accept f → (further_text f ≡ file) × FurtherOk n f × (edition ≡ 1 → f ≡ no_further)
-  unfolding read_rest if◌then◌else◌ further_text no_further joined
+  unfolding read_rest further_text no_further joined
   rest_back edition file f e = go (eqb edition 1) refl e
     where
       go : (t : Bool) → eqb edition 1 ≡ t → (if t then (require 8 (is_empty file) >>= λ u. accept no_further) else read_further n file) ≡ accept f → (further_text f ≡ file) × FurtherOk n f × (edition ≡ 1 → f ≡ no_further)

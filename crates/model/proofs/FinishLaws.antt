@@ -1,5 +1,6 @@
 -- How long a job stays, and what that makes of the latency: no start passes it, it rises with the starts, and it is the first tick in which all is
 -- over.
+use Rattle.std.specs.Prelude.{if◌then◌else◌}
 use Prim.Native.Nat.{ℕ, zero, suc, ◌+◌, ◌≤◌, ◌<◌, max}
 use mathlib.Core.Path.{◌≡◌, refl, ap, sym, ◌∙◌, subst}
 use mathlib.Core.Logic.{⊎_elim, ◌↔◌}
@@ -14,7 +15,7 @@ use lib.Dec.{eqb}
 use borrow.Author.Tests.{eq-eqb, eqb-true}
 use Rattle.model.specs.declared.Job.{Job}
 use Rattle.model.specs.declared.Batch.{Batch}
-use Rattle.model.specs.Common.{count, if◌then◌else◌}
+use Rattle.model.specs.Common.{count}
 use Rattle.model.specs.Batch.{job_of, ticks, mask}
 use Rattle.model.specs.Plan.{start, Holds, stay_in, stay, finish, latency}
 use Rattle.model.specs.Finish.{Empty, Over, FirstOver}
@@ -43,11 +44,11 @@ largest_in f (y ∷ xs) x m = ⊎_elim (λ e. omega (arith, ap f e)) (λ n. omeg
 module _ (job : Job) where
   -- an empty tick at the end adds nothing, and one that is not empty is the last
   pub stay_less : (a : ℕ) → get_or job.masks a 0 ≡ 0 → stay_in job (suc a) ≡ stay_in job a
-  unfolding stay_in if◌then◌else◌
+  unfolding stay_in
   stay_less a e = rw (eq-eqb (get_or job.masks a 0) 0 e)
 
   pub stay_here : (a : ℕ) → (get_or job.masks a 0 ≡ 0 → ⊥) → stay_in job (suc a) ≡ suc a
-  unfolding stay_in if◌then◌else◌
+  unfolding stay_in
   stay_here a e = go (eqb (get_or job.masks a 0) 0) refl
     where
       go : (p : Bool) → eqb (get_or job.masks a 0) 0 ≡ p → (if p then stay_in job a else suc a) ≡ suc a

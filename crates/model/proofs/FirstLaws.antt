@@ -1,5 +1,6 @@
 -- Edition 01 after Q-4 and Q-5: a file of it, and every sound record of it, has the ends 0 and 65,535, which no least start passes, and no station rests. So its clashes, its
 -- least starts, its shortest plans and whether there is a plan are 01's, as specs/First has them, and a file that does not begin with a header of edition 02 opens, or is refused, as 01 says.
+use Rattle.std.specs.Prelude.{if◌then◌else◌}
 use Prim.Native.Nat.{ℕ, zero, suc, ◌+◌, ◌*◌, ◌≤◌, ◌<◌, pred}
 use mathlib.Core.Path.{◌≡◌, refl, ap, ap₂, sym, ◌∙◌, subst}
 use mathlib.Core.Logic.{◌⊎◌, inl, inr, ⊎_elim, ◌↔◌, ◌≢◌}
@@ -21,7 +22,7 @@ use Rattle.model.specs.declared.Job.{Job}
 use Rattle.model.specs.declared.Turn.{Turn}
 use Rattle.model.specs.declared.Search.{Search}
 use Rattle.model.specs.declared.Window.{Window}
-use Rattle.model.specs.Common.{if◌then◌else◌, count, all, keep, is_empty, is_some, Outcome, refuse, accept, ◌>>=◌, require}
+use Rattle.model.specs.Common.{count, all, keep, is_empty, is_some, Outcome, refuse, accept, ◌>>=◌, require}
 use Rattle.model.specs.Limits.{most_jobs, stations, most_weight, most_clashes, most_latency, no_latest}
 use Rattle.model.specs.Batch.{blank_window, rest_of, window_of, lined, earliest, latest, earliest_starts, latest_starts}
 use Rattle.model.specs.Plan.{start, Keeps, KeepsDelays, KeepsEnds, Valid, Shortest, latency}
@@ -119,7 +120,7 @@ module _ (b : Batch) (p : Passes b) (one : b.edition ≡ 1) where
   none_of = ap (λ (x : ℕ). eqb x 2 || (eqb x 1 && (is_empty (window_lines b) && is_empty (rest_lines b)))) (sym one) ∙ p.edition
 
   pub sound_ends01 : (i : ℕ) → i < b.n → NoEnds b i
-  unfolding sound_further window_lines window_ok if◌then◌else◌
+  unfolding sound_further window_lines window_ok
   sound_ends01 i h = let r = by (lined b i) without (all_each (window_ok b) (count 0 b.n) (both _ (all (rest_ok b) (count 0 stations)) p.further).0 (some_count 0 b.n i (omega arith) (omega arith))) in (without, r.0, r.1)
     where
       without : lined b i ≡ false
@@ -137,7 +138,7 @@ module _ (b : Batch) (p : Passes b) (one : b.edition ≡ 1) where
 
 -- least starts that are in time for other latest starts are the least ones there too
 other_latest : (first last last' : List ℕ) (qs : List Delay) (ss : List ℕ) → least_starts first last qs ≡ some ss → in_time last' ss ≡ true → least_starts first last' qs ≡ some ss
-unfolding least_starts if◌then◌else◌
+unfolding least_starts
 other_latest first last last' qs ss e h = let r = least_round first last qs ss e in rw (r.0, r.1, same_refl ss, h)
 
 -- of a batch within the limits whose jobs have no ends and whose stations have no rest
@@ -371,7 +372,7 @@ tested n m = refl
 
 -- after the delays of edition 01
 rest_first : (jobs : List Job) (delays : List Delay) (end : List ℕ) (n : ℕ) → (read_rest 1 n end >>= λ further. accept (batch_of 1 jobs delays further)) ≡ (require 8 (is_empty end) >>= λ u. accept (batch_of 1 jobs delays no_further))
-unfolding read_rest if◌then◌else◌ require is_empty ◌>>=◌
+unfolding read_rest require is_empty ◌>>=◌
 rest_first jobs delays [] n = refl
 rest_first jobs delays (c ∷ cs) n = refl
 

@@ -1,5 +1,6 @@
 -- The frames of a batch file both ways: header, job and delay. A frame that was read is written back byte for byte and what it says is
 -- in limits; what is in limits is written as a frame that is read again.
+use Rattle.std.specs.Prelude.{if◌then◌else◌}
 use Prim.Native.Nat.{ℕ, zero, suc, ◌+◌, ◌-◌, ◌*◌, ◌/◌, ◌%◌, ◌≤◌, ◌<◌}
 use mathlib.Core.Path.{◌≡◌, refl, ap, ap₂, sym, ◌∙◌, subst}
 use mathlib.Core.Logic.{◌↔◌}
@@ -13,7 +14,7 @@ use lib.Dec.{ltb, eqb, leb→le}
 use borrow.Author.Tests.{lt-ltb, le-ltb, eqb-true, eq-eqb}
 use Rattle.model.specs.declared.Delay.{Delay}
 use Rattle.model.specs.declared.Job.{Job}
-use Rattle.model.specs.Common.{if◌then◌else◌, count, pad, joined, accept, ◌>>=◌, require}
+use Rattle.model.specs.Common.{count, pad, joined, accept, ◌>>=◌, require}
 use Rattle.model.specs.Limits.{most_jobs, most_ticks, most_weight}
 use Rattle.model.specs.Line.{at, wide, frame_is, two}
 use Rattle.model.specs.Format.{unsigned, masks_of, pad_job}
@@ -29,7 +30,7 @@ use Rattle.model.proofs.ReadLaws.{Framing}
 
 -- two bytes as a weight are these two bytes again
 pub unsigned_signed : (v : ℕ) → v < 65536 → unsigned (signed v) ≡ v
-unfolding unsigned signed if◌then◌else◌
+unfolding unsigned signed
 unsigned_signed v h = go (ltb v 32768)
   where
     go : (p : Bool) → unsigned (if p then pos v else negsuc (65535 - v)) ≡ v
@@ -38,7 +39,7 @@ unsigned_signed v h = go (ltb v 32768)
 
 -- a weight of 16 bits comes back from its two bytes
 pub signed_unsigned : (w : ℤ) → mag w < 32768 → signed (unsigned w) ≡ w
-unfolding unsigned signed if◌then◌else◌
+unfolding unsigned signed
 signed_unsigned (pos k) h = rw (lt-ltb k 32768 h) refl
 signed_unsigned (negsuc k) h = rw (le-ltb (65535 - k) 32768 (omega arith)) (ap negsuc (omega arith))
 

@@ -1,5 +1,6 @@
 -- What holds at every place that a search reaches: its turns are on different listed clashes with sides 0 or 1, there are none when it
 -- has ended, and its best is what was found. Each node keeps this and leaves less open.
+use Rattle.std.specs.Prelude.{if◌then◌else◌}
 use Prim.Native.Nat.{ℕ, ◌-◌, ◌≤◌, ◌<◌}
 use mathlib.Core.Path.{◌≡◌, refl, ap, sym, subst}
 use mathlib.Core.Logic.{◌⊎◌, inl, inr}
@@ -14,7 +15,7 @@ use Rattle.model.specs.declared.Batch.{Batch}
 use Rattle.model.specs.declared.Turn.{Turn}
 use Rattle.model.specs.declared.Best.{Best}
 use Rattle.model.specs.declared.Best.TheVariants.{Nothing, Latency}
-use Rattle.model.specs.Common.{if◌then◌else◌, pad}
+use Rattle.model.specs.Common.{pad}
 use Rattle.model.specs.Limits.{most_jobs}
 use Rattle.model.specs.Plan.{Valid, latency}
 use Rattle.model.specs.Clash.{clashes}
@@ -118,7 +119,7 @@ module _ (b : Batch) (fits : Fits b) (I : Incumbent → Type 0) (new : (ts : Lis
       go none h = record { good = record { turns = good_none b; best = i; over = λ e. refl }; down = inl refl }
 
   pub step_next : (p : Place) → Good p → Step p.turns (next (clashes b) b p)
-  unfolding next visit branch if◌then◌else◌
+  unfolding next visit branch
   step_next p g = by (starts_at (clashes b) b p.turns) refl
     where
       named : Named b p.turns

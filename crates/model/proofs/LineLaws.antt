@@ -1,5 +1,6 @@
 -- Lines both ways: a line that was read is written back character by character, and a line that was written is read. So reading a
 -- line and writing one are inverse to each other, on bytes.
+use Rattle.std.specs.Prelude.{if◌then◌else◌}
 use Prim.Native.Nat.{ℕ, ◌+◌, ◌-◌, ◌*◌, ◌/◌, ◌%◌, ◌≤◌, ◌<◌}
 use mathlib.Core.Path.{◌≡◌, refl, ap, ap₂, sym, ◌∙◌, subst}
 use mathlib.Core.Bool.{Bool, true, false, not}
@@ -10,7 +11,7 @@ use lib.ListN.{length, drop}
 use lib.Seq.{drop_at}
 use lib.Dec.{leb, ltb, eqb}
 use borrow.Author.Tests.{leb-true, le-leb, lt-leb, ltb-true, ltb-false, lt-ltb, le-ltb, eqb-true, ne_eqb, not-false}
-use Rattle.model.specs.Common.{if◌then◌else◌, between, up_to, joined}
+use Rattle.model.specs.Common.{between, up_to, joined}
 use Rattle.model.specs.Line.{digit, byte, bytes_of, line_of, frame_bytes, read_line, digit_of, digits_of, line}
 use Rattle.model.proofs.BoolLaws.{both}
 use Rattle.model.proofs.ListLaws.{each_nil, each_cons, each_head, each_tail}
@@ -32,7 +33,7 @@ nothing e = let z : ◌≡◌ {A = ℕ} 0 1 = cc in absurd (omega arith)
 
 -- a digit that was read is the digit of its value
 pub digit_back : (c v : ℕ) → digit c ≡ some v → (v < 16) × (digit_of v ≡ c)
-unfolding digit between if◌then◌else◌ digit_of
+unfolding digit between digit_of
 digit_back c v e = go (between 48 c 57) refl (between 65 c 70) refl e
   where
     go : (p : Bool) → between 48 c 57 ≡ p → (q : Bool) → between 65 c 70 ≡ q → (if p then some (c - 48) else if q then some (c - 55) else none) ≡ some v → (v < 16) × (digit_of v ≡ c)
@@ -52,7 +53,7 @@ digit_back c v e = go (between 48 c 57) refl (between 65 c 70) refl e
 
 -- the digit of a value has that value, and is no 0A
 pub digit_of_lem : (v : ℕ) → v < 16 → (digit (digit_of v) ≡ some v) × (not (eqb (digit_of v) 10) ≡ true)
-unfolding digit between if◌then◌else◌ digit_of
+unfolding digit between digit_of
 digit_of_lem v h = go (ltb v 10) refl
   where
     go : (p : Bool) → ltb v 10 ≡ p → (digit (if p then v + 48 else v + 55) ≡ some v) × (not (eqb (if p then v + 48 else v + 55) 10) ≡ true)

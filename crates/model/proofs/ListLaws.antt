@@ -1,4 +1,5 @@
 -- Members of the lists that the definitions are built with, and lists read by index.
+use Rattle.std.specs.Prelude.{if◌then◌else◌}
 use Prim.Native.Nat.{ℕ, zero, suc, ◌+◌, ◌≤◌, ◌<◌}
 use mathlib.Core.Path.{◌≡◌, refl, ap, sym, ◌∙◌, subst}
 use mathlib.Core.Logic.{◌⊎◌, inl, inr}
@@ -7,7 +8,7 @@ use mathlib.Core.List.Memᴰ
 use mathlib.Core.List.{List, [], ◌∷◌, ◌++◌, map, Memᴰ}
 use native.Mathlib.Omega.{arith}
 use lib.ListN.{length, get_or}
-use Rattle.model.specs.Common.{count, all, any, keep, joined, if◌then◌else◌}
+use Rattle.model.specs.Common.{count, all, any, keep, joined}
 use Rattle.model.proofs.BoolLaws.{apart}
 
 module _ {A : Type 0} where
@@ -47,7 +48,7 @@ module _ {A : Type 0} where
   each_all f (x ∷ xs) h = rw (h x (Memᴰ.head refl), all) (each_all f xs (λ y m. h y (Memᴰ.tail m)))
 
   pub keep_some : (f : A → Bool) {x : A} (xs : List A) → Memᴰ x (keep f xs) → f x ≡ true
-  unfolding keep if◌then◌else◌
+  unfolding keep
   keep_some f [] m = absurd (Memᴰ.not-nil m)
   keep_some f {x = y} (x ∷ xs) m = go (f x) refl m (keep_some f xs)
     where
@@ -60,7 +61,7 @@ module _ {A : Type 0} where
       go false h m rec = rec m
 
   pub some_keep : (f : A → Bool) {x : A} (xs : List A) → Memᴰ x xs → f x ≡ true → Memᴰ x (keep f xs)
-  unfolding keep if◌then◌else◌
+  unfolding keep
   some_keep f [] m e = absurd (Memᴰ.not-nil m)
   some_keep f {x = y} (x ∷ xs) m e = go (f x) refl (Memᴰ.cases_cons m) (λ k. some_keep f xs k e)
     where
@@ -113,7 +114,7 @@ joined_cong f g (x ∷ xs) h = rw (h x (Memᴰ.head refl), joined_cong f g xs (�
 
 -- what is kept of two lists
 pub keep_append : {A : Type 0} (f : A → Bool) (xs ys : List A) → keep f (xs ++ ys) ≡ keep f xs ++ keep f ys
-unfolding keep if◌then◌else◌
+unfolding keep
 keep_append f [] ys = refl
 keep_append f (x ∷ xs) ys = go (f x) (keep_append f xs ys)
   where
@@ -122,7 +123,7 @@ keep_append f (x ∷ xs) ys = go (f x) (keep_append f xs ys)
     go false e = e
 
 pub keep_none : {A : Type 0} (f : A → Bool) (xs : List A) → ((x : A) → Memᴰ x xs → f x ≡ false) → keep f xs ≡ []
-unfolding keep if◌then◌else◌
+unfolding keep
 keep_none f [] h = refl
 keep_none f (x ∷ xs) h = rw (h x (Memᴰ.head refl)) (keep_none f xs (λ y m. h y (Memᴰ.tail m)))
 

@@ -1,5 +1,6 @@
 -- One node: what its least starts are, that no clash on its path is met, and that it keeps what a search claims of every valid plan:
 -- it is at or above best, or still open.
+use Rattle.std.specs.Prelude.{if◌then◌else◌}
 use Prim.Native.Nat.{ℕ, zero, suc, ◌+◌, ◌-◌, ◌≤◌, ◌<◌}
 use mathlib.Core.Path.{◌≡◌, refl, ap, sym, ◌∙◌, subst}
 use mathlib.Core.Logic.{◌⊎◌, inl, inr, ⊎_elim}
@@ -17,7 +18,7 @@ use Rattle.model.specs.declared.Batch.{Batch}
 use Rattle.model.specs.declared.Turn.{Turn}
 use Rattle.model.specs.declared.Best.{Best}
 use Rattle.model.specs.declared.Best.TheVariants.{Nothing, Latency}
-use Rattle.model.specs.Common.{if◌then◌else◌, eq_z}
+use Rattle.model.specs.Common.{eq_z}
 use Rattle.model.specs.Limits.{most_jobs, most_ticks, stations, most_clashes, most_weight, most_earliest, most_rest}
 use Rattle.model.specs.Batch.{ticks, delays_of, rest_of, earliest, earliest_starts, latest_starts}
 use Rattle.model.specs.Plan.{start, Keeps, KeepsDelays, Valid, latency}
@@ -203,7 +204,7 @@ module _ (b : Batch) (fits : Fits b) where
       unmet_side us c (apart_unmet b us v.stations c (get_d_in (clashes b) k no_clash h))
 
   pub live_next : (us : List ℕ) → Valid b us → (p : Place) → Named b p.turns → p.ended ≡ false → Live us p → Live us (next (clashes b) b p)
-  unfolding next visit branch Live become_best if◌then◌else◌
+  unfolding next visit branch Live become_best
   live_next us v p names e l = by (starts_at (clashes b) b p.turns) refl
     where
       best : Best

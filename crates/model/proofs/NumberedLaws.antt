@@ -1,5 +1,6 @@
 -- Further lines of a kind that has at most one line for each number, whatever the numbers are of: lines that keep their limits one after the other rise, and
 -- such lines and the record's places for them give each other back.
+use Rattle.std.specs.Prelude.{if◌then◌else◌}
 use Prim.Native.Nat.{ℕ, zero, suc, ◌+◌, ◌≤◌, ◌<◌}
 use mathlib.Core.Path.{◌≡◌, refl, ap, ap₂, sym, ◌∙◌, subst}
 use mathlib.Core.Logic.{⊎_elim}
@@ -10,7 +11,7 @@ use native.Mathlib.Omega.{arith}
 use native.Mathlib.Decide.{ℕ_discrete}
 use lib.Dec.{ltb, eqb}
 use borrow.Author.Tests.{ltb-true, lt-ltb, eq-eqb, ne_eqb}
-use Rattle.model.specs.Common.{if◌then◌else◌, count, all, keep}
+use Rattle.model.specs.Common.{count, all, keep}
 use Rattle.model.specs.Numbered.{rises, place_in}
 use Rattle.model.proofs.BoolLaws.{both, and}
 use Rattle.model.proofs.ListLaws.{all_each, each_all}
@@ -34,7 +35,7 @@ module _ {A P : Type 0} (K : Numbering A P) where
 
   -- what holds of the blank place and of the place of each line holds of every place
   pub place_each : (Q : P → Type 0) (xs : List A) → Q K.blank → ((x : A) → Memᴰ x xs → Q (K.place x)) → (i : ℕ) → Q (place_of xs i)
-  unfolding place_in if◌then◌else◌
+  unfolding place_in
   place_each Q [] q h i = q
   place_each Q (x ∷ xs) q h i = go (eqb (K.number x) i) (place_each Q xs q (λ y m. h y (Memᴰ.tail m)) i)
     where
@@ -51,11 +52,11 @@ module _ {A P : Type 0} (K : Numbering A P) where
 
     -- place a has no line, or one
     lines_none : (a k : ℕ) → K.has (places a) ≡ false → lines_of a (suc k) ≡ lines_of (suc a) k
-    unfolding keep count if◌then◌else◌
+    unfolding keep count
     lines_none a k e = rw e
 
     lines_one : (a k : ℕ) → K.has (places a) ≡ true → lines_of a (suc k) ≡ K.line a (places a) ∷ lines_of (suc a) k
-    unfolding keep count if◌then◌else◌
+    unfolding keep count
     lines_one a k e = rw e
 
     -- what a line keeps of its place
@@ -64,7 +65,7 @@ module _ {A P : Type 0} (K : Numbering A P) where
 
     -- the places for these lines: each is kept, and a place before them is blank
     own_out : (a k i : ℕ) → i < a → place_of (lines_of a k) i ≡ K.blank
-    unfolding keep count place_in if◌then◌else◌
+    unfolding keep count place_in
     own_out a zero i h = refl
     own_out a (suc k) i h = go (K.has (places a)) refl (own_out (suc a) k i (omega arith))
       where
@@ -73,7 +74,7 @@ module _ {A P : Type 0} (K : Numbering A P) where
         go false e rec = ap (λ (xs : List A). place_of xs i) (lines_none a k e) ∙ rec
 
     own_in : (a k i : ℕ) → a ≤ i → i < a + k → place_of (lines_of a k) i ≡ kept i
-    unfolding keep count place_in if◌then◌else◌
+    unfolding keep count place_in
     own_in a zero i h g = absurd (omega arith)
     own_in a (suc k) i h g = go (K.has (places a)) refl (ℕ_discrete a i) (λ l. own_in (suc a) k i l (omega arith))
       where
@@ -99,14 +100,14 @@ module _ {A P : Type 0} (K : Numbering A P) where
 
     -- a number before all lines has a blank place
     place_out : (lo : ℕ) (xs : List A) (i : ℕ) → Rising lo xs → i < lo → place_of xs i ≡ K.blank
-    unfolding place_in if◌then◌else◌
+    unfolding place_in
     place_out lo [] i r h = refl
     place_out lo (x ∷ xs) i r h =
         rw (ne_eqb (K.number x) i (λ z. omega (arith, r.0))) (place_out (suc (K.number x)) xs i r.2 (omega (arith, r.0)))
 
     -- the places for rising lines give them back, where the place of each has a line
     lines_back : (places : ℕ → P) (a k : ℕ) (xs : List A) → a + k ≡ limit → Rising a xs → ((x : A) → Memᴰ x xs → K.has (K.place x) ≡ true) → ((i : ℕ) → a ≤ i → i < limit → places i ≡ place_of xs i) → lines_of places a k ≡ xs
-    unfolding place_in if◌then◌else◌ keep count
+    unfolding place_in keep count
     lines_back places a zero [] z r full p = refl
     lines_back places a zero (x ∷ xs) z r full p = absurd (omega (arith, r.0, r.1))
     lines_back places a (suc k) [] z r full p =

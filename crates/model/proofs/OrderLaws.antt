@@ -1,4 +1,5 @@
 -- Clashes are listed by i, then j, then d, all rising, and so each once.
+use Rattle.std.specs.Prelude.{if◌then◌else◌}
 use Prim.Native.Nat.{ℕ, zero, suc, ◌+◌, ◌-◌, ◌<◌}
 use mathlib.Core.Path.{◌≡◌, refl, ap, sym, subst}
 use mathlib.Core.Logic.{◌⊎◌, inl, inr}
@@ -11,7 +12,7 @@ use lib.Signed.{◌<ℤ◌, lt_z, <ℤ_irrefl}
 use lib.Dec.{T, ltb, lt→ltb}
 use borrow.Author.Tests.{ltb-true, ltb-false}
 use Rattle.model.specs.declared.Batch.{Batch}
-use Rattle.model.specs.Common.{count, keep, joined, if◌then◌else◌}
+use Rattle.model.specs.Common.{count, keep, joined}
 use Rattle.model.specs.Clash.{Clash, clashing, distances, clashes_of, clashes}
 use Rattle.model.proofs.ListLaws.{map_some, joined_some, count_some}
 
@@ -30,7 +31,7 @@ module _ {A : Type 0} (R : A → A → Type 0) where
       go y (inr m) = f x y (Memᴰ.head refl) m
 
   pub keep_in : (f : A → Bool) (xs : List A) (y : A) → Memᴰ y (keep f xs) → Memᴰ y xs
-  unfolding keep if◌then◌else◌
+  unfolding keep
   keep_in f [] y m = m
   keep_in f (x ∷ xs) y m = go (f x) m (keep_in f xs y)
     where
@@ -43,7 +44,7 @@ module _ {A : Type 0} (R : A → A → Type 0) where
       go false m rec = Memᴰ.tail (rec m)
 
   rising_keep : (f : A → Bool) (xs : List A) → Rising xs → Rising (keep f xs)
-  unfolding keep if◌then◌else◌
+  unfolding keep
   rising_keep f [] h = tt
   rising_keep f (x ∷ xs) h = go (f x) (rising_keep f xs h.1)
     where

@@ -1,5 +1,6 @@
 -- Empty ticks at the end of a table change nothing but the table: neither clashes nor validity, least starts, latency, any step of the search, nor
 -- what a call answers.
+use Rattle.std.specs.Prelude.{if◌then◌else◌}
 use Prim.Native.Nat.{ℕ, zero, suc, ◌+◌, ◌-◌, ◌≤◌, ◌<◌, max}
 use mathlib.Core.Path.{◌≡◌, refl, ap, ap₂, sym, ◌∙◌, subst}
 use mathlib.Core.Logic.{◌↔◌}
@@ -17,7 +18,7 @@ use Rattle.model.specs.declared.Turn.{Turn}
 use Rattle.model.specs.declared.Batch.{Batch}
 use Rattle.model.specs.declared.Search.{Search}
 use Rattle.model.specs.declared.Ran.{Ran}
-use Rattle.model.specs.Common.{between, count, all, keep, joined, is_empty, is_some, if◌then◌else◌, Outcome, refuse, accept, ◌>>=◌, require}
+use Rattle.model.specs.Common.{between, count, all, keep, joined, is_empty, is_some, Outcome, refuse, accept, ◌>>=◌, require}
 use Rattle.model.specs.Limits.{stations, most_clashes, most_budget, most_total}
 use Rattle.model.specs.Batch.{job_of, ticks, mask, bit, delays_of, rest_of, earliest, latest, earliest_starts, latest_starts}
 use Rattle.model.specs.Plan.{start, Keeps, Holds, too_close, Apart, KeepsDelays, KeepsEnds, KeepsStations, Valid, stay_in, stay, finish, latency}

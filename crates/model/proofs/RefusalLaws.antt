@@ -1,5 +1,6 @@
 -- The numbers that each call refuses with: opening 1 to 10, 20 and 21, a run 11 to 14, the plan text 12, 15 or 16, the batch text 12 or 16, judging those of
 -- opening and 17 to 19. A chain of steps refuses only with numbers that its steps refuse with.
+use Rattle.std.specs.Prelude.{if◌then◌else◌}
 use Prim.Native.Nat.{ℕ, zero, suc, ◌≤◌}
 use mathlib.Core.Path.{◌≡◌, refl, sym, subst}
 use mathlib.Core.Logic.{◌⊎◌, inl, inr}
@@ -8,7 +9,7 @@ use mathlib.Core.Option.{Option, none, some}
 use mathlib.Core.List.{List, [], ◌∷◌, ◌++◌}
 use native.Mathlib.Omega.{arith}
 use Rattle.model.specs.declared.Search.{Search}
-use Rattle.model.specs.Common.{if◌then◌else◌, is_empty, Outcome, refuse, accept, ◌>>=◌, require, given}
+use Rattle.model.specs.Common.{is_empty, Outcome, refuse, accept, ◌>>=◌, require, given}
 use lib.ListN.{length}
 use lib.Dec.{eqb}
 use borrow.Author.Tests.{eqb-true, eqb-false}
@@ -138,7 +139,7 @@ module _ {P : ℕ → Type 0} (p : InLines P) where
 
   -- edition 01 with 8 after the delays, another with the numbers of further lines
   only_rest : (edition n : ℕ) (end : List ℕ) → (edition ≡ 1 → P 8) → (¬ (edition ≡ 1) → InFurther P) → Only P (read_rest edition n end)
-  unfolding read_rest if◌then◌else◌
+  unfolding read_rest
   only_rest edition n end n8 further = go (eqb edition 1) refl
     where
       go : (t : Bool) → eqb edition 1 ≡ t → Only P (if t then (require 8 (is_empty end) >>= λ u. accept no_further) else read_further n end)

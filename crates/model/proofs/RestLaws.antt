@@ -1,4 +1,5 @@
 -- Kind A4: its frame both ways, and its lines and the record's places for them to each other.
+use Rattle.std.specs.Prelude.{if◌then◌else◌}
 use Prim.Native.Nat.{ℕ, ◌≤◌, ◌<◌}
 use mathlib.Core.Path.{◌≡◌, refl, ap, sym, ◌∙◌, subst}
 use mathlib.Core.Bool.{Bool, true, false, not}
@@ -8,7 +9,7 @@ use lib.ListN.{get_or}
 use lib.Dec.{eqb}
 use borrow.Author.Tests.{leb-true, le-leb, eqb-true, eqb-false, ne_eqb, not-true}
 use Rattle.model.specs.declared.Batch.{Batch}
-use Rattle.model.specs.Common.{if◌then◌else◌, between, count, accept, ◌>>=◌, require}
+use Rattle.model.specs.Common.{between, count, accept, ◌>>=◌, require}
 use Rattle.model.specs.Limits.{stations, most_rest}
 use Rattle.model.specs.Batch.{rest_of}
 use Rattle.model.specs.Line.{at, frame_is}
@@ -106,7 +107,7 @@ module _ (b : Batch) where
 
   -- a batch with the places for its lines has its rests
   pub own_rests : (c : Batch) → c.rests ≡ rests_of (rest_lines b) → (s : ℕ) → s < stations → rest_of c s ≡ rest_of b s
-  unfolding rest_lines rest_line rested rest_in if◌then◌else◌
+  unfolding rest_lines rest_line rested rest_in
   own_rests c e s h = place_at c (rest_lines b) e s h ∙ own_place rest_numbering (rest_of b) stations s h ∙ go (eqb (rest_of b s) 0) refl
     where
       go : (t : Bool) → eqb (rest_of b s) 0 ≡ t → (if not t then rest_of b s else 0) ≡ rest_of b s

@@ -1,4 +1,5 @@
 -- Least starts: they keep the inequalities and the ends, no solution has a smaller start, and they exist exactly where there is a solution.
+use Rattle.std.specs.Prelude.{if◌then◌else◌}
 use Prim.Native.Nat.{ℕ, zero, suc, ◌+◌, ◌≤◌, ◌<◌, max, pred}
 use mathlib.Core.Path.{◌≡◌, refl, ap, ap₂, sym, ◌∙◌, subst}
 use mathlib.Core.Logic.{◌⊎◌, inl, inr, ◌↔◌}
@@ -13,7 +14,7 @@ use lib.ListN.{length, get_or, length-map, get_or-eq_default}
 use lib.Dec.{leb, eqb}
 use lib.Seq.{ext_get_or}
 use borrow.Author.Tests.{leb-true, le-leb, eqb-true, eqb-false, eq-eqb}
-use Rattle.model.specs.Common.{count, is_some, if◌then◌else◌}
+use Rattle.model.specs.Common.{count, is_some}
 use Rattle.model.specs.declared.Delay.{Delay}
 use Rattle.model.specs.declared.Batch.{Batch}
 use Rattle.model.specs.Batch.{earliest, latest, earliest_starts, latest_starts}
@@ -31,7 +32,7 @@ unfoldable pub reach : List ℕ → Delay → ℕ
 reach old q = plus (get_or old q.from 0) q.weight
 
 pub raised_old : (qs : List Delay) (old : List ℕ) (j : ℕ) → get_or old j 0 ≤ raised qs old j
-unfolding raised if◌then◌else◌
+unfolding raised
 raised_old [] old j = le_refl (get_or old j 0)
 raised_old (q ∷ qs) old j = go (eqb q.to j) (raised_old qs old j)
   where
@@ -40,7 +41,7 @@ raised_old (q ∷ qs) old j = go (eqb q.to j) (raised_old qs old j)
     go false h = h
 
 pub raised_in : (qs : List Delay) (old : List ℕ) (q : Delay) → Memᴰ q qs → reach old q ≤ raised qs old q.to
-unfolding raised if◌then◌else◌ reach
+unfolding raised reach
 raised_in [] old q m = absurd (Memᴰ.not-nil m)
 raised_in (r ∷ qs) old q m = go (eqb r.to q.to) refl (Memᴰ.cases_cons m) (raised_in qs old q)
   where
@@ -58,7 +59,7 @@ pub record Why (qs : List Delay) (old : List ℕ) (j v : ℕ) : Type 0 where
   pub value : v ≡ reach old why
 
 pub raised_why : (qs : List Delay) (old : List ℕ) (j : ℕ) → (raised qs old j ≡ get_or old j 0) ⊎ Why qs old j (raised qs old j)
-unfolding raised if◌then◌else◌ reach
+unfolding raised reach
 raised_why [] old j = inl refl
 raised_why (q ∷ qs) old j = go (eqb q.to j) refl (dec_le (raised qs old j) (reach old q)) (raised_why qs old j)
   where
@@ -364,7 +365,7 @@ module _ (first last : List ℕ) (qs : List Delay) where
     in_time_lem : in_time last ts ≡ true
 
   tested : (ts : List ℕ) → least_starts first last qs ≡ some ts → Tested ts
-  unfolding least_starts if◌then◌else◌
+  unfolding least_starts
   tested ts e = go (same (rounds qs first n) (rounds qs first (pred n)) && in_time last (rounds qs first n)) refl e
     where
       go : (p : Bool) → (same (rounds qs first n) (rounds qs first (pred n)) && in_time last (rounds qs first n)) ≡ p → (if p then some (rounds qs first n) else none) ≡ some ts → Tested ts
@@ -420,7 +421,7 @@ module _ (first last : List ℕ) (qs : List Delay) where
 
   -- they exist where some starts keep the inequalities and the ends
   pub least_found : Inside n qs → (us : List ℕ) → Solution first last qs us → least_starts first last qs ≡ some (rounds qs first n)
-  unfolding least_starts if◌then◌else◌ after Inside rounds in_time start
+  unfolding least_starts after Inside rounds in_time start
   least_found inside us s = rw (settled n refl, in_time_lem)
     where
       unchanged : (m : ℕ) → suc m ≡ n → rounds qs first (suc m) ≡ rounds qs first m

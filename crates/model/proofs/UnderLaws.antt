@@ -1,5 +1,6 @@
 -- Rounds from any starts that are at or below every solution: they lead to the least starts, and a latency at or above best's on the way sends
 -- the node back. So a node may begin where its parent stood, raised by its last turn, and stop at best.
+use Rattle.std.specs.Prelude.{if◌then◌else◌}
 use Prim.Native.Nat.{ℕ, suc, ◌≤◌, ◌<◌, max}
 use mathlib.Core.Path.{◌≡◌, refl, ap, sym, ◌∙◌}
 use mathlib.Core.Logic.{◌⊎◌, inl, inr}
@@ -17,7 +18,7 @@ use Rattle.model.specs.declared.Delay.{Delay}
 use Rattle.model.specs.declared.Batch.{Batch}
 use Rattle.model.specs.declared.Best.{Best}
 use Rattle.model.specs.declared.Best.TheVariants.{Nothing, Latency}
-use Rattle.model.specs.Common.{count, if◌then◌else◌}
+use Rattle.model.specs.Common.{count}
 use Rattle.model.specs.Batch.{delays_of, earliest_starts, latest_starts}
 use Rattle.model.specs.Plan.{start, Keeps, latency}
 use Rattle.model.specs.Clash.{Clash, clashes}
@@ -178,7 +179,7 @@ module _ (cs : List Clash) (b : Batch) (p : Place) (qs : List Delay) (inside : I
 
   -- a latency at or above best's, of starts at or below every solution: the node goes back, whether or not there are least starts
   pub stopped_back : (old : List ℕ) → Under (earliest_starts b) (latest_starts b) qs old → prunes p.incumbent.best (latency b old) ≡ true → visit cs b p least ≡ back p.turns p.incumbent
-  unfolding visit if◌then◌else◌
+  unfolding visit
   stopped_back old u e = go least refl
     where
       go : (o : Option (List ℕ)) → least ≡ o → visit cs b p o ≡ back p.turns p.incumbent

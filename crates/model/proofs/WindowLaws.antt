@@ -1,4 +1,5 @@
 -- Kind A3: its frame both ways, and its lines and the record's places for them to each other.
+use Rattle.std.specs.Prelude.{if◌then◌else◌}
 use Prim.Native.Nat.{ℕ, ◌+◌, ◌*◌, ◌/◌, ◌%◌, ◌≤◌, ◌<◌}
 use mathlib.Core.Path.{◌≡◌, refl, ap, ap₂, sym, ◌∙◌, subst}
 use mathlib.Core.Bool.{Bool, true, false, not, ◌&&◌}
@@ -9,7 +10,7 @@ use lib.Dec.{leb, eqb}
 use borrow.Author.Tests.{leb-true, le-leb, eqb-true, eq-eqb}
 use Rattle.model.specs.declared.Batch.{Batch}
 use Rattle.model.specs.declared.Window.{Window}
-use Rattle.model.specs.Common.{if◌then◌else◌, count, accept, ◌>>=◌, require}
+use Rattle.model.specs.Common.{count, accept, ◌>>=◌, require}
 use Rattle.model.specs.Limits.{most_jobs, most_earliest, no_latest}
 use Rattle.model.specs.Batch.{blank_window, window_of, lined, earliest, latest}
 use Rattle.model.specs.Line.{at, wide, frame_is, two}
@@ -131,7 +132,7 @@ module _ (b : Batch) (few : b.n ≤ most_jobs) where
 
 -- a batch with the places for another's lines has its ends
 pub own_ends : (b : Batch) → WithinWindows b → (c : Batch) → c.windows ≡ windows_of (window_lines b) → (i : ℕ) → i < b.n → i < most_jobs → (lined c i ≡ lined b i) × (earliest c i ≡ earliest b i) × (latest c i ≡ latest b i)
-unfolding window_lines window_line lined earliest latest if◌then◌else◌ window_in window_place blank_window
+unfolding window_lines window_line lined earliest latest window_in window_place blank_window
 own_ends b w c e i h m = go (lined b i) refl (place_at c (window_lines b) e i m ∙ own_place window_numbering (window_of b) b.n i h)
   where
     go : (t : Bool) → lined b i ≡ t → window_of c i ≡ (if t then record { lined = 1; earliest = earliest b i; latest = latest b i } else blank_window) → (lined c i ≡ lined b i) × (earliest c i ≡ earliest b i) × (latest c i ≡ latest b i)
@@ -143,7 +144,7 @@ own_ends b w c e i h m = go (lined b i) refl (place_at c (window_lines b) e i m 
 -- ---- the limits as tests
 
 pub window_ok_lem : (b : Batch) → WithinWindows b → (i : ℕ) → i < b.n → window_ok b i ≡ true
-unfolding window_ok if◌then◌else◌ ends_ok
+unfolding window_ok ends_ok
 window_ok_lem b w i h = go (lined b i) refl
   where
     go : (t : Bool) → lined b i ≡ t → (if t then ends_ok (earliest b i) (latest b i) else eqb (earliest b i) 0 && eqb (latest b i) no_latest) ≡ true
@@ -152,7 +153,7 @@ window_ok_lem b w i h = go (lined b i) refl
 
 -- no earliest start above 20,000
 pub window_soon : (b : Batch) (i : ℕ) → window_ok b i ≡ true → earliest b i ≤ most_earliest
-unfolding window_ok if◌then◌else◌ ends_ok
+unfolding window_ok ends_ok
 window_soon b i h = go (lined b i) h
   where
     go : (t : Bool) → (if t then ends_ok (earliest b i) (latest b i) else eqb (earliest b i) 0 && eqb (latest b i) no_latest) ≡ true → earliest b i ≤ most_earliest

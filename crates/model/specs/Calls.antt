@@ -1,9 +1,8 @@
 -- Lists of run calls on a freshly opened search: what is handed on from call to call, and S.
-use Rattle.std.specs.Prelude.{ℕ, ◌+◌, min, Bool, ◌&&◌, ◌||◌, List, [], ◌∷◌, length, ltb}
+use Rattle.std.specs.Prelude.{ℕ, ◌+◌, min, Bool, ◌&&◌, ◌||◌, List, [], ◌∷◌, length, ltb, if◌then◌else◌}
 use Rattle.model.specs.declared.Batch.{Batch}
 use Rattle.model.specs.declared.Search.{Search}
 use Rattle.model.specs.declared.Ran.{Ran}
-use Rattle.model.specs.Common.{if◌then◌else◌}
 use Rattle.model.specs.Limits.{most_budget, most_total}
 use Rattle.model.specs.Run.{ran}
 

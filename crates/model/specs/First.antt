@@ -1,13 +1,13 @@
 -- What stood before requests Q-4 and Q-5 of 02, in the words of then: document 01, with the latency of Q-3. One edition, nothing after the delays, starts with no ends,
 -- and stations with no rest. model/proofs/FirstLaws says what today's definitions make of a file of edition 01, and of every sound record of it: this, and nothing else;
 -- "01" is there this file. model/proofs/RestedLaws says the same of stations and clashes wherever no station rests.
-use Rattle.std.specs.Prelude.{ℕ, zero, suc, ◌+◌, ◌-◌, ◌≤◌, ◌<◌, pred, ◌≡◌, Bool, true, false, ◌&&◌, List, ◌++◌, map, length, replicate, ℤ, leb, eqb}
+use Rattle.std.specs.Prelude.{ℕ, zero, suc, ◌+◌, ◌-◌, ◌≤◌, ◌<◌, pred, ◌≡◌, Bool, true, false, ◌&&◌, List, ◌++◌, map, length, replicate, ℤ, leb, eqb, if◌then◌else◌}
 use Rattle.std.proofs.Math.Option.{Option, none, some}
 use Rattle.std.proofs.Math.IntN.{sub_ℕ}
 use Rattle.model.specs.declared.Delay.{Delay}
 use Rattle.model.specs.declared.Batch.{Batch}
 use Rattle.model.specs.declared.Search.{Search}
-use Rattle.model.specs.Common.{if◌then◌else◌, eq_z, count, any, keep, joined, is_empty, is_some, Outcome, accept, ◌>>=◌, require}
+use Rattle.model.specs.Common.{eq_z, count, any, keep, joined, is_empty, is_some, Outcome, accept, ◌>>=◌, require}
 use Rattle.model.specs.Limits.{stations, most_clashes}
 use Rattle.model.specs.Batch.{ticks, mask, bit, delays_of}
 use Rattle.model.specs.Plan.{Holds, KeepsDelays, latency}

@@ -1,7 +1,7 @@
 -- Lines: upper-case hexadecimal, two digits a byte, closed by byte 0A. Reading the first line of a file, what its bytes say, and writing one.
-use Rattle.std.specs.Prelude.{ℕ, suc, ◌+◌, ◌-◌, ◌*◌, ◌/◌, ◌%◌, Bool, ◌&&◌, not, List, [], ◌∷◌, ◌++◌, length, get_or, drop, ltb, eqb}
+use Rattle.std.specs.Prelude.{ℕ, suc, ◌+◌, ◌-◌, ◌*◌, ◌/◌, ◌%◌, Bool, ◌&&◌, not, List, [], ◌∷◌, ◌++◌, length, get_or, drop, ltb, eqb, if◌then◌else◌}
 use Rattle.std.proofs.Math.Option.{Option, none, some}
-use Rattle.model.specs.Common.{if◌then◌else◌, between, up_to, joined}
+use Rattle.model.specs.Common.{between, up_to, joined}
 
 -- the value of a digit: 0-9, A-F
 unfoldable pub digit : ℕ → Option ℕ

@@ -1,7 +1,7 @@
 -- Further lines of a kind that has at most one line for each number, a job's (02, Q-4) or a station's (Q-5): the numbers rise from line to line, and the record
 -- has a place for each.
-use Rattle.std.specs.Prelude.{ℕ, Bool, ◌&&◌, List, [], ◌∷◌, ltb, eqb}
-use Rattle.model.specs.Common.{if◌then◌else◌, all}
+use Rattle.std.specs.Prelude.{ℕ, Bool, ◌&&◌, List, [], ◌∷◌, ltb, eqb, if◌then◌else◌}
+use Rattle.model.specs.Common.{all}
 
 module _ {A : Type 0} (number : A → ℕ) where
   -- below the limit, and above the number of every line before

@@ -1,6 +1,6 @@
 -- Opening a batch file: line by line, in a line 7 first and then 1 to 6 in turn; then 8 in edition 01, or the further lines of edition 02, in each 1, 2 and its
 -- kind's number; then 9, 10.
-use Rattle.std.specs.Prelude.{ℕ, zero, suc, ◌+◌, ◌-◌, ◌*◌, Bool, true, false, ◌&&◌, ◌||◌, not, List, [], ◌∷◌, ◌++◌, length, drop, ℤ, pos, negsuc, leb, ltb, eqb}
+use Rattle.std.specs.Prelude.{ℕ, zero, suc, ◌+◌, ◌-◌, ◌*◌, Bool, true, false, ◌&&◌, ◌||◌, not, List, [], ◌∷◌, ◌++◌, length, drop, ℤ, pos, negsuc, leb, ltb, eqb, if◌then◌else◌}
 use Rattle.std.specs.Int.Signed.{le_z}
 use Rattle.model.specs.declared.Delay.{Delay}
 use Rattle.model.specs.declared.Job.{Job}
@@ -8,7 +8,7 @@ use Rattle.model.specs.declared.Batch.{Batch}
 use Rattle.model.specs.declared.Search.{Search}
 use Rattle.model.specs.declared.Opening.TheVariants.{Accepted, Refused}
 use Rattle.model.specs.declared.Opened.{Opened}
-use Rattle.model.specs.Common.{if◌then◌else◌, between, pad, is_empty, is_some, Outcome, refuse, accept, ◌>>=◌, require, given}
+use Rattle.model.specs.Common.{between, pad, is_empty, is_some, Outcome, refuse, accept, ◌>>=◌, require, given}
 use Rattle.model.specs.Limits.{most_jobs, most_delays, most_ticks, most_weight, most_clashes}
 use Rattle.model.specs.Batch.{delays_of, earliest_starts, latest_starts}
 use Rattle.model.specs.Clash.{clashes}

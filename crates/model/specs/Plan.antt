@@ -1,11 +1,11 @@
 -- Plan and latency, by ticks and stations and with no word of clashes. A plan (a schedule) is the list of its starts.
-use Rattle.std.specs.Prelude.{ℕ, zero, suc, ◌+◌, ◌≤◌, ◌<◌, max, Bool, ◌≡◌, get_or, length, ℤ, pos, negsuc, ◌≤ℤ◌, T, leb, eqb}
+use Rattle.std.specs.Prelude.{ℕ, zero, suc, ◌+◌, ◌≤◌, ◌<◌, max, Bool, ◌≡◌, get_or, length, ℤ, pos, negsuc, ◌≤ℤ◌, T, leb, eqb, if◌then◌else◌}
 use mathlib.Core.List.{List, Memᴰ, map, foldr}
 use Rattle.std.proofs.Math.IntN.{sub_ℕ}
 use Rattle.model.specs.declared.Delay.{Delay}
 use Rattle.model.specs.declared.Job.{Job}
 use Rattle.model.specs.declared.Batch.{Batch}
-use Rattle.model.specs.Common.{if◌then◌else◌, count}
+use Rattle.model.specs.Common.{count}
 use Rattle.model.specs.Limits.{stations}
 use Rattle.model.specs.Batch.{job_of, ticks, mask, bit, delays_of, rest_of, earliest, latest}
 

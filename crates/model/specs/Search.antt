@@ -1,5 +1,5 @@
 -- The search (branch and bound, depth first): its state, one node, going back, and N.
-use Rattle.std.specs.Prelude.{ℕ, zero, suc, ◌+◌, ◌-◌, ◌^◌, Bool, true, false, ◌&&◌, not, List, [], ◌∷◌, ◌++◌, map, ◌≡◌, get_or, replicate, length, pos, ◌+ℤ◌, ◌-ℤ◌, leb, eqb}
+use Rattle.std.specs.Prelude.{ℕ, zero, suc, ◌+◌, ◌-◌, ◌^◌, Bool, true, false, ◌&&◌, not, List, [], ◌∷◌, ◌++◌, map, ◌≡◌, get_or, replicate, length, pos, ◌+ℤ◌, ◌-ℤ◌, leb, eqb, if◌then◌else◌}
 use Rattle.std.proofs.Math.Option.{Option, none, some}
 use Rattle.std.proofs.Math.IntN.{sub_ℕ}
 use Rattle.model.specs.declared.Delay.{Delay}
@@ -8,7 +8,7 @@ use Rattle.model.specs.declared.Turn.{Turn}
 use Rattle.model.specs.declared.Best.{Best}
 use Rattle.model.specs.declared.Best.TheVariants.{Nothing, Latency}
 use Rattle.model.specs.declared.Search.{Search}
-use Rattle.model.specs.Common.{if◌then◌else◌, up_to, pad, eq_z}
+use Rattle.model.specs.Common.{up_to, pad, eq_z}
 use Rattle.model.specs.Limits.{most_jobs, most_clashes}
 use Rattle.model.specs.Batch.{delays_of, earliest_starts, latest_starts}
 use Rattle.model.specs.Plan.{start, latency}

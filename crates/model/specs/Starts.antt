@@ -1,11 +1,11 @@
 -- Least starts (the earliest start times, longest-path potentials) of a list of inequalities t_j − t_i ≥ w over n jobs, each with an earliest and
 -- a latest start. An inequality is written as a delay from i to j of weight w.
-use Rattle.std.specs.Prelude.{ℕ, zero, suc, ◌+◌, ◌-◌, ◌≤◌, ◌<◌, max, pred, Bool, true, false, ◌&&◌, ◌≡◌, get_or, length, ℤ, pos, negsuc, leb, eqb}
+use Rattle.std.specs.Prelude.{ℕ, zero, suc, ◌+◌, ◌-◌, ◌≤◌, ◌<◌, max, pred, Bool, true, false, ◌&&◌, ◌≡◌, get_or, length, ℤ, pos, negsuc, leb, eqb, if◌then◌else◌}
 use mathlib.Core.List.{List, [], ◌∷◌, Memᴰ, map}
 use Rattle.std.proofs.Math.Option.{Option, none, some}
 use Rattle.std.specs.Int.Signed.{le_z}
 use Rattle.model.specs.declared.Delay.{Delay}
-use Rattle.model.specs.Common.{count, all, if◌then◌else◌}
+use Rattle.model.specs.Common.{count, all}
 use Rattle.model.specs.Limits.{most_jobs}
 use Rattle.model.specs.Plan.{start, Keeps}
 

@@ -1,8 +1,8 @@
 -- Kind A3: a job's earliest and latest start (02, Q-4). Its line, its limits, the frame that is read, and its places in the record.
-use Rattle.std.specs.Prelude.{ℕ, ◌≤◌, ◌<◌, ◌≡◌, Bool, true, false, ◌&&◌, List, ◌∷◌, ◌++◌, map, leb, eqb}
+use Rattle.std.specs.Prelude.{ℕ, ◌≤◌, ◌<◌, ◌≡◌, Bool, true, false, ◌&&◌, List, ◌∷◌, ◌++◌, map, leb, eqb, if◌then◌else◌}
 use Rattle.model.specs.declared.Window.{Window}
 use Rattle.model.specs.declared.Batch.{Batch}
-use Rattle.model.specs.Common.{if◌then◌else◌, count, keep, Outcome, accept, ◌>>=◌, require}
+use Rattle.model.specs.Common.{count, keep, Outcome, accept, ◌>>=◌, require}
 use Rattle.model.specs.Limits.{most_jobs, most_earliest, no_latest}
 use Rattle.model.specs.Batch.{blank_window, lined, earliest, latest}
 use Rattle.model.specs.Line.{at, wide, frame_is, line, two}

@@ -1,4 +1,5 @@
 -- Going back over the array: a last turn of side 1 is dropped, and a last turn of side 0 is set to side 1.
+use Rattle.std.specs.Prelude.{if◌then◌else◌}
 use Prim.Native.Nat.{ℕ, suc, ◌+◌, ◌-◌, ◌/◌, ◌%◌, ◌≤◌, ◌<◌}
 use mathlib.Core.Path.{◌≡◌, refl, ap, sym, ◌∙◌}
 use mathlib.Core.List.{List, [], ◌∷◌, ◌++◌}
@@ -9,7 +10,7 @@ use lib.ListN.{length, get_or, set, length-set}
 use lib.Seq.{get_or-set_same, get_or-set_other}
 use borrow.Author.Tests.{eq-eqb, ne_eqb}
 use Rattle.model.specs.declared.Turn.{Turn}
-use Rattle.model.specs.Common.{count, if◌then◌else◌}
+use Rattle.model.specs.Common.{count}
 use Rattle.model.specs.Search.{next_side, moved_on, turned_back}
 use Rattle.model.proofs.SeqLaws.{listed_snoc, listed_cong}
 use Rattle.node.specs.Walk.{turn_of, turns_in, Path, Kin, back_as}
@@ -46,14 +47,14 @@ back_none turns = refl
 
 -- a turn of side 1 at the end
 pub back_odd : (turns : List ℕ) (left last turn : ℕ) → 0 < left → last ≡ left - 1 → turn ≡ get_or turns last 0 → ¬ (turn % 2 ≡ 0) → turned_back (turns_in turns left) ≡ turned_back (turns_in turns last)
-unfolding turn_of next_side if◌then◌else◌
+unfolding turn_of next_side
 back_odd turns left last turn h e p q =
     let z : left ≡ suc last = omega arith in
     ap (λ (d : ℕ). turned_back (turns_in turns d)) z ∙ ap turned_back (turns_more turns last)
     ∙ back_drop (turn_of (get_or turns last 0)) (rw (ne_eqb (get_or turns last 0 % 2) 0 (λ r. q (ap (λ (x : ℕ). x % 2) p ∙ r)))) (turns_in turns last)
 
 flipped : (x turn : ℕ) → turn ≡ x → turn % 2 ≡ 0 → next_side (turn_of x) ≡ some (turn_of (turn + 1))
-unfolding turn_of next_side if◌then◌else◌
+unfolding turn_of next_side
 flipped x turn p q =
     let a : (turn + 1) / 2 ≡ x / 2 = omega arith in
     let b : (turn + 1) % 2 ≡ 1 = omega arith in

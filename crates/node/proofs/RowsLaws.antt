@@ -1,4 +1,5 @@
 -- Where a node's rounds begin: the cases of the code, that the starts are at or below every solution, and the ring of rows as it goes on and back.
+use Rattle.std.specs.Prelude.{if◌then◌else◌}
 use Prim.Native.Nat.{ℕ, zero, suc, ◌+◌, ◌-◌, ◌%◌, ◌≤◌, ◌<◌, max}
 use mathlib.Core.Path.{◌≡◌, refl, ap, sym, subst, ◌∙◌}
 use mathlib.Core.Bool.{Bool, true, false}
@@ -13,7 +14,7 @@ use borrow.Author.Tests.{eq-eqb, ne_eqb, eqb-true}
 use Rattle.model.specs.declared.Batch.{Batch}
 use Rattle.model.specs.declared.Delay.{Delay}
 use Rattle.model.specs.declared.Turn.{Turn}
-use Rattle.model.specs.Common.{if◌then◌else◌, pad}
+use Rattle.model.specs.Common.{pad}
 use Rattle.model.specs.Batch.{delays_of, earliest_starts, latest_starts}
 use Rattle.model.specs.Clash.{clashes}
 use Rattle.model.specs.Search.{turned, inequalities}
@@ -45,7 +46,7 @@ module _ (rows : List (List ℕ)) (tags latencies tail head gap stays : List ℕ
   module _ (last tag : ℕ) (t : tag ≡ get_or tags (last % 32) 0) where
     -- no row is there
     pub begun_missed : (depth : ℕ) → (depth ≡ 0 → ⊥) → last ≡ depth - 1 → (tag ≡ last → ⊥) → Begun depth first latency₀
-    unfolding begun if◌then◌else◌
+    unfolding begun
     begun_missed zero more e h = absurd (more refl)
     begun_missed (suc d) more e h =
         let z : d ≡ last = omega arith in rw (z, ne_eqb (get_or tags (last % 32) 0) last (λ s. h (t ∙ s)))
@@ -54,7 +55,7 @@ module _ (rows : List (List ℕ)) (tags latencies tail head gap stays : List ℕ
     pub begun_raised : (depth : ℕ) → (depth ≡ 0 → ⊥) → last ≡ depth - 1 → tag ≡ last → (i j x most wide latency : ℕ) → i ≡ get_or tail last 0 → j ≡ get_or head last 0
         → most ≡ max (get_or (get_or rows (last % 32) []) j 0) x → x ≡ get_or (get_or rows (last % 32) []) i 0 + 1000 - get_or gap last 0 → wide ≡ get_or stays j 0
         → latency ≡ max (get_or latencies (last % 32) 0) (most + wide) → Begun depth (set (get_or rows (last % 32) []) j most) latency
-    unfolding begun raised_row raised_start if◌then◌else◌
+    unfolding begun raised_row raised_start
     begun_raised zero more e h i j x most wide latency a b c s g l = absurd (more refl)
     begun_raised (suc d) more e h i j x most wide latency a b c s g l =
         let z : d ≡ last = omega arith in rw (z, eq-eqb (get_or tags (last % 32) 0) last (sym t ∙ h), l, g, c, s, ← a, ← b)
@@ -148,7 +149,7 @@ module _ (b : Batch) (few : b.n ≤ 24) where
     pub begins : (depth : ℕ) → Kept b stays turns depth rows tags latencies
         → ((last : ℕ) → last < depth → Fits b.n (last_of last) × ((get_or tail last 0 ≡ (last_of last).from) × ((get_or head last 0 ≡ (last_of last).to) × (get_or gap last 0 ≡ coded (last_of last).weight))))
         → Begins depth (begun rows tags latencies tail head gap depth stays latency₀ (earliest_read b))
-    unfolding begun if◌then◌else◌
+    unfolding begun
     begins zero k s = begins_none 0
     begins (suc last) k s = go (eqb (get_or tags (last % 32) 0) last) refl
       where

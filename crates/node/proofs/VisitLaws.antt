@@ -1,4 +1,5 @@
 -- The cases of a node: what least starts, latency and the first met clash say together is the definitions' next place.
+use Rattle.std.specs.Prelude.{if◌then◌else◌}
 use Prim.Native.Nat.{ℕ, ◌+◌, ◌*◌, ◌/◌, ◌%◌, ◌≤◌, ◌<◌}
 use mathlib.Core.Path.{◌≡◌, refl, ap, sym, ◌∙◌}
 use mathlib.Core.Bool.{Bool, false}
@@ -12,7 +13,7 @@ use Rattle.model.specs.declared.Batch.{Batch}
 use Rattle.model.specs.declared.Turn.{Turn}
 use Rattle.model.specs.declared.Best.{Best}
 use Rattle.model.specs.declared.Best.TheVariants.{Latency}
-use Rattle.model.specs.Common.{if◌then◌else◌, pad}
+use Rattle.model.specs.Common.{pad}
 use Rattle.model.specs.Batch.{earliest_starts, latest_starts}
 use Rattle.model.specs.Plan.{latency}
 use Rattle.model.specs.Clash.{clashes}
@@ -119,7 +120,7 @@ module _ (b : Batch) (sizes : Sizes) (kit : Kit) (t : Trail) (walk : Walk) (w : 
 
     -- ss is not cut off at best
     decided : next (clashes b) b place ≡ branch b place ss (first_met (clashes b) ss 0)
-    unfolding next visit place_at if◌then◌else◌
+    unfolding next visit place_at
     decided =
         ap (visit (clashes b) b place) l.least
         ∙ ap (λ (q : Bool). if q then back ts (incumbent walk.best walk.starts) else branch b place ss (first_met (clashes b) ss 0)) l.below

@@ -1,8 +1,8 @@
 -- The rows that are kept of the nodes above a node, and the starts that it begins with.
-use Rattle.std.specs.Prelude.{ℕ, zero, suc, ◌+◌, ◌-◌, ◌%◌, ◌<◌, max, ◌≡◌, List, [], get_or, set, length, eqb}
+use Rattle.std.specs.Prelude.{ℕ, zero, suc, ◌+◌, ◌-◌, ◌%◌, ◌<◌, max, ◌≡◌, List, [], get_or, set, length, eqb, if◌then◌else◌}
 use Rattle.model.specs.declared.Batch.{Batch}
 use Rattle.model.specs.declared.Delay.{Delay}
-use Rattle.model.specs.Common.{if◌then◌else◌, pad}
+use Rattle.model.specs.Common.{pad}
 use Rattle.model.specs.Clash.{clashes}
 use Rattle.model.specs.Search.{inequalities}
 use Rattle.model.proofs.UnderLaws.{Below}

@@ -1,4 +1,5 @@
 -- Starts held to pairs, as unmet holds them: starts that meet a code of a pair have its bit, so a pair without that bit has no code that is met.
+use Rattle.std.specs.Prelude.{if◌then◌else◌}
 use Prim.Native.Nat.{ℕ, ◌+◌, ◌-◌, ◌/◌, ◌%◌, ◌^◌, ◌≤◌, ◌<◌}
 use mathlib.Core.Path.{◌≡◌, refl, ◌∙◌}
 use mathlib.Core.Logic.{◌≢◌}
@@ -8,7 +9,6 @@ use native.Mathlib.Omega.{arith}
 use native.Mathlib.Decide.{ℕ_discrete, dec_lt}
 use lib.ListN.{get_or}
 use borrow.Author.Tests.{eqb-true, lt-ltb, le-ltb}
-use Rattle.model.specs.Common.{if◌then◌else◌}
 use Rattle.model.specs.Search.{met}
 use Rattle.model.proofs.BoolLaws.{decide}
 use Rattle.clashes.specs.Code.{clash_of}
@@ -18,7 +18,7 @@ use Rattle.pairs.specs.Pairs.{bit_of, In, Paired, NoneMet}
 
 -- the bit that is asked is one of 64
 pub bit_small : (at later earlier : ℕ) → at ≡ bit_of later earlier → at < 64
-unfolding bit_of if◌then◌else◌
+unfolding bit_of
 bit_small at later earlier e = go (dec_lt 63 (later - earlier))
   where
     go : Dec (63 < later - earlier) → at < 64
@@ -28,7 +28,7 @@ bit_small at later earlier e = go (dec_lt 63 (later - earlier))
 -- starts that meet a code of pair q have its bit: x is the pair, t and u are the starts of j and i, and at is the bit asked
 pub not_in : (codes pair held ts : List ℕ) (c q x t u at : ℕ) → x ≡ get_or pair q 0 → t ≡ get_or ts (x % 32) 0 → u ≡ get_or ts (x / 32) 0 → at ≡ bit_of (t + 23) u
     → get_or held q 0 / 2 ^ at % 2 ≢ 1 → In codes pair held c q → met ts (clash_of (get_or codes c 0)) ≡ false
-unfolding bit_of if◌then◌else◌
+unfolding bit_of
 not_in codes pair held ts c q x t u at ex et eu ea ne i = decide (met ts (clash_of (get_or codes c 0))) λ m.
     let y = get_or codes c 0 in
     let j : y / 64 % 32 ≡ x % 32 = rw (i.same, ex) refl in

@@ -1,7 +1,6 @@
 -- The listed clashes by pairs of jobs: the distances of a pair as bits of one number, so that starts are held to all of them at once.
 -- A pair is the number i * 32 + j, which is a code without its last 6 bits.
-use Rattle.std.specs.Prelude.{ℕ, ◌+◌, ◌-◌, ◌/◌, ◌%◌, ◌^◌, ◌≤◌, ◌<◌, ◌≡◌, List, length, get_or, ltb}
-use Rattle.model.specs.Common.{if◌then◌else◌}
+use Rattle.std.specs.Prelude.{ℕ, ◌+◌, ◌-◌, ◌/◌, ◌%◌, ◌^◌, ◌≤◌, ◌<◌, ◌≡◌, List, length, get_or, ltb, if◌then◌else◌}
 use Rattle.model.specs.Limits.{most_jobs}
 use Rattle.clashes.specs.First.{Unmet}
 

@@ -1,5 +1,6 @@
 -- A record loses nothing: the record of a search stands for that search. So calls on records do what the planner's calls do on searches, one after the other.
 -- And which records from elsewhere are as the planner writes them: an answered run that visits no node leaves just these as they are.
+use Rattle.std.specs.Prelude.{if◌then◌else◌}
 use mathlib.Core.Path.{◌≡◌, refl, ap, sym, ◌∙◌, subst}
 use mathlib.Core.Logic.{◌↔◌, ◌≢◌, ◌⊎◌, inl, inr}
 use mathlib.Core.Bool.{Bool, true, false, not}
@@ -14,7 +15,7 @@ use Rattle.model.specs.declared.Best.TheVariants.{Nothing, Latency}
 use Rattle.model.specs.declared.Search.{Search}
 use Rattle.model.specs.declared.Ran.{Ran}
 use Rattle.model.specs.declared.Opening.TheVariants.{Accepted}
-use Rattle.model.specs.Common.{if◌then◌else◌, Outcome, refuse, accept}
+use Rattle.model.specs.Common.{Outcome, refuse, accept}
 use Rattle.model.specs.Open.{opened}
 use Rattle.model.specs.Calls.{Call, call, after}
 use Rattle.model.specs.Search.{nodes_on, nodes}
@@ -26,7 +27,7 @@ use Rattle.planner_c.specs.Replies.{reply_of}
 use Rattle.planner_c.specs.Calls.{record_opened, opened_as, opened_record, record_after, ran_as, ran_record, after_runs}
 
 best_back : (b : Best) → best_in (found_of b) (latency_of b) ≡ b
-unfolding best_in if◌then◌else◌
+unfolding best_in
 best_back Nothing = refl
 best_back (Latency l) = refl
 
@@ -103,7 +104,7 @@ flag_kept (suc zero) h = refl
 flag_kept (suc (suc e)) h = absurd (omega arith)
 
 best_kept : (f l : ℕ) → f ≤ 1 → (f ≡ 0 → l ≡ 0) → (found_of (best_in f l) ≡ f) × (latency_of (best_in f l) ≡ l)
-unfolding best_in if◌then◌else◌
+unfolding best_in
 best_kept zero l h e = (refl, sym (e refl))
 best_kept (suc zero) l h e = (refl, refl)
 best_kept (suc (suc f)) l h e = absurd (omega arith)

@@ -1,5 +1,6 @@
 -- What C's caller reads out of an answer's numbers. No refusal has the number 0, so 0 in the place of a refusal says that the call was answered, and
 -- the kinds of a run's reply are 01's cases.
+use Rattle.std.specs.Prelude.{if◌then◌else◌}
 use Prim.Native.Nat.{ℕ}
 use mathlib.Core.Path.{◌≡◌, refl, ap, sym, ◌∙◌, subst}
 use mathlib.Core.Logic.{◌↔◌, ◌≢◌, ⊎_elim, inl, inr}
@@ -14,7 +15,7 @@ use Rattle.model.specs.declared.Best.TheVariants.{Nothing, Latency}
 use Rattle.model.specs.declared.Ran.{Ran}
 use Rattle.model.specs.declared.Answer.{Answer}
 use Rattle.model.specs.declared.Answer.TheVariants.{Spent, Plan, NoPlan, Refused}
-use Rattle.model.specs.Common.{if◌then◌else◌, Outcome, refuse, accept}
+use Rattle.model.specs.Common.{Outcome, refuse, accept}
 use Rattle.model.specs.Search.{fresh_search, nodes}
 use Rattle.model.specs.Format.{BatchFile}
 use Rattle.model.specs.Open.{open_file, opened_as as opened_by, opened}
@@ -78,7 +79,7 @@ reply_told r =
 
 -- a reply loses nothing of the answer
 pub reply_told_lem : (a : Answer) → reply_told (reply_of a) ≡ run_told a
-unfolding reply_told reply_of run_told if◌then◌else◌
+unfolding reply_told reply_of run_told
 reply_told_lem (Spent total) = refl
 reply_told_lem (Plan latency total) = refl
 reply_told_lem (NoPlan total) = refl

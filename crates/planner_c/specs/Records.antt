@@ -1,9 +1,8 @@
 -- What search a record of C's stands for, and the record of a search. A record is numbers alone, so every one stands for a search.
-use Rattle.std.specs.Prelude.{ℕ, Bool, true, false, not, eqb}
+use Rattle.std.specs.Prelude.{ℕ, Bool, true, false, not, eqb, if◌then◌else◌}
 use Rattle.model.specs.declared.Best.{Best}
 use Rattle.model.specs.declared.Best.TheVariants.{Nothing, Latency}
 use Rattle.model.specs.declared.Search.{Search}
-use Rattle.model.specs.Common.{if◌then◌else◌}
 use Rattle.planner_c.specs.declared.records.Record.{Record}
 
 -- found 0: no best yet; otherwise best has the latency

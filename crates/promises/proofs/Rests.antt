@@ -1,5 +1,6 @@
 -- Request Q-5: the law of clashes and rests by model's laws, and of the public calls by the demands. Then it is pinned: each statement is read out with the numbers of 02,
 -- for every distance, every file and every list of runs.
+use Rattle.std.specs.Prelude.{if◌then◌else◌}
 use Prim.Native.Nat.{ℕ, ◌+◌, ◌≤◌, ◌<◌}
 use mathlib.Core.Path.{◌≡◌, refl, ap, sym, ◌∙◌, subst}
 use mathlib.Core.Logic.{◌⊎◌, inl, inr, ⊎_elim, ◌↔◌, ◌≢◌}
@@ -17,7 +18,7 @@ use Rattle.model.specs.declared.Batch.{Batch}
 use Rattle.model.specs.declared.Search.{Search}
 use Rattle.model.specs.declared.Opened.{Opened}
 use Rattle.model.specs.declared.Ran.{Ran}
-use Rattle.model.specs.Common.{if◌then◌else◌, count, refuse, accept}
+use Rattle.model.specs.Common.{count, refuse, accept}
 use Rattle.model.specs.Batch.{rest_of}
 use Rattle.model.specs.Plan.{start, Holds, too_close, Apart, KeepsDelays, KeepsEnds, KeepsStations, Valid}
 use Rattle.model.specs.Clash.{clashing, distances, clashes}
@@ -142,7 +143,7 @@ q5 =
 
 -- starts of two different jobs at any distance
 two_starts : (i j : ℕ) (d : ℤ) → i ≢ j → (ts : List ℕ) × (sub_ℕ (start ts j) (start ts i) ≡ d)
-unfolding start if◌then◌else◌
+unfolding start
 two_starts i j d ne =
     let w = between_some d in
     let f : ℕ → ℕ = λ k. if eqb k j then w.later else w.earlier in

@@ -1,4 +1,5 @@
 -- What follows the delays: what is read of it by its edition, and the batch that it is put into.
+use Rattle.std.specs.Prelude.{if◌then◌else◌}
 use Prim.Native.Nat.{ℕ, ◌≤◌, ◌<◌}
 use mathlib.Core.Path.{◌≡◌, refl, ap, ap₂, sym, ◌∙◌}
 use mathlib.Core.Bool.{true, false}
@@ -10,7 +11,7 @@ use Rattle.model.specs.declared.Job.{Job}
 use Rattle.model.specs.declared.Delay.{Delay}
 use Rattle.model.specs.declared.Window.{Window}
 use Rattle.model.specs.declared.Opening.TheVariants.{Accepted, Refused}
-use Rattle.model.specs.Common.{if◌then◌else◌, is_empty, refuse, accept, ◌>>=◌, require}
+use Rattle.model.specs.Common.{is_empty, refuse, accept, ◌>>=◌, require}
 use Rattle.model.specs.Window.{windows_of}
 use Rattle.model.specs.Rest.{rests_of}
 use Rattle.model.specs.Format.{no_further}
@@ -38,13 +39,13 @@ end_more (c ∷ cs) l = refl
 
 -- edition 02
 pub rest_second : (edition n : ℕ) (rest : List ℕ) → (edition ≡ 1 → ⊥) → (r : FurtherRead) → r ≡ further_told (read_further n rest) → r ≡ further_told (read_rest edition n rest)
-unfolding read_rest if◌then◌else◌
+unfolding read_rest
 rest_second edition n rest h r t = t ∙ ap further_told (rw (ne_eqb edition 1 h))
 
 -- edition 01
 module _ (file : List ℕ) (edition n at : ℕ) (first : edition ≡ 1) where
   rest_first : read_rest edition n (drop at file) ≡ (require 8 (is_empty (drop at file)) >>= λ u. accept no_further)
-  unfolding read_rest if◌then◌else◌
+  unfolding read_rest
   rest_first = rw (eq-eqb edition 1 first)
 
   -- 8: bytes after the last frame

@@ -1,4 +1,5 @@
 -- Rounds as the code takes them: four rows, one round, k rounds that may end early, and no start rises by more than 1,000 in a round.
+use Rattle.std.specs.Prelude.{if◌then◌else◌}
 use mathlib.Core.Path.{◌≡◌, refl, sym, ◌∙◌, ap}
 use mathlib.Core.Bool.{Bool, true, false}
 use mathlib.Core.List.{List}
@@ -11,7 +12,6 @@ use native.Mathlib.Decide.{ℕ_discrete, dec_lt}
 use lib.Dec.{eqb}
 use lib.ListN.{get_or, length, replicate, get_or-eq_default}
 use borrow.Author.Tests.{eqb-true, eq-eqb, le-leb, lt-leb}
-use Rattle.model.specs.Common.{if◌then◌else◌}
 use Rattle.model.proofs.BoolLaws.{both, and_false}
 use Rattle.times.specs.Fill.{Small}
 use Rattle.times.specs.Ends.{none_late}
@@ -166,18 +166,18 @@ module _ (table : List (List ℕ)) (fours : ℕ) where
 
     module _ (new : List ℕ) (r : Bool) (e : new ≡ round_of table old (4 * fours)) (s : r ≡ same_to old new 24) where
       pub rounds_end : (k : ℕ) → (k ≡ 0 → ⊥) → r ≡ true → (x : Bool) → x ≡ none_late latest old 24 → record { starts = old; latency = latency; found = x } ≡ timely latest (rounds_of table stays fours bound old latency k)
-      unfolding rounds_of timely if◌then◌else◌
+      unfolding rounds_of timely
       rounds_end zero more p x t = absurd (more refl)
       rounds_end (suc k) more p x t = rw (← e, ← s, p, t)
 
       module _ (risen : ℕ) (g : risen ≡ raised_by stays new latency) (p : r ≡ false) where
         pub rounds_stop : (k : ℕ) → (k ≡ 0 → ⊥) → bound ≤ risen → record { starts = new; latency = risen; found = false } ≡ timely latest (rounds_of table stays fours bound old latency k)
-        unfolding rounds_of timely if◌then◌else◌
+        unfolding rounds_of timely
         rounds_stop zero more h = absurd (more refl)
         rounds_stop (suc k) more h = rw (← e, ← s, p, ← g, le-leb bound risen h)
 
         pub rounds_on : (k : ℕ) → (k ≡ 0 → ⊥) → risen < bound → (x : Reached) → x ≡ timely latest (rounds_of table stays fours bound new risen (k - 1))
             → x ≡ timely latest (rounds_of table stays fours bound old latency k)
-        unfolding rounds_of if◌then◌else◌
+        unfolding rounds_of
         rounds_on zero more h x q = absurd (more refl)
         rounds_on (suc k) more h x q = q ∙ rw (← e, ← s, p, ← g, lt-leb bound risen h, sub-one (suc k))

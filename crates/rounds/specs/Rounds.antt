@@ -1,6 +1,5 @@
 -- Rounds over a table of codes, as lists of 24 starts. Rows and columns past n are empty, so the starts past n stay 0.
-use Rattle.std.specs.Prelude.{ℕ, zero, suc, ◌+◌, ◌*◌, ◌-◌, max, Bool, true, false, ◌&&◌, List, [], get_or, eqb, leb}
-use Rattle.model.specs.Common.{if◌then◌else◌}
+use Rattle.std.specs.Prelude.{ℕ, zero, suc, ◌+◌, ◌*◌, ◌-◌, max, Bool, true, false, ◌&&◌, List, [], get_or, eqb, leb, if◌then◌else◌}
 use Rattle.times.specs.Fill.{filled}
 use Rattle.times.specs.Ends.{none_late}
 use Rattle.times.specs.Latency.{raised_by}

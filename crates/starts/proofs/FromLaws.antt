@@ -1,5 +1,6 @@
 -- Rounds from any starts, over a table that holds a list of inequalities, are the definition's rounds over the list: after each of them starts and
 -- latency are the definition's, and no start passes 43,016 while they go on.
+use Rattle.std.specs.Prelude.{if◌then◌else◌}
 use mathlib.Core.Path.{◌≡◌, refl, sym, ◌∙◌, ap}
 use mathlib.Core.Bool.{Bool, true, false}
 use mathlib.Core.List.{List, map}
@@ -10,7 +11,7 @@ use lib.ListN.{length, get_or-eq_default}
 use lib.Seq.{ext_get_or}
 use borrow.Author.Tests.{leb-true, leb-false}
 use Rattle.model.specs.declared.Delay.{Delay}
-use Rattle.model.specs.Common.{if◌then◌else◌, count, pad}
+use Rattle.model.specs.Common.{count, pad}
 use Rattle.model.specs.Starts.{raised, rounds}
 use Rattle.model.proofs.BoolLaws.{apart}
 use Rattle.model.proofs.SeqLaws.{pad_at, pad_length}
@@ -73,7 +74,7 @@ module _ (n : ℕ) (few : n ≤ 24) (t : List (List ℕ)) (qs : List Delay) (h :
     -- from there on, with k more to go
     came : (k a : ℕ) → a + k ≡ end → (latency : ℕ) → latency ≡ latency_of stays (at a) 24 → latency < bound → Changed qs base a
         → Came qs base stays bound end (rounds_of t stays fours bound (at a) latency k)
-    unfolding rounds_of if◌then◌else◌
+    unfolding rounds_of
     came zero a e latency l b c = record { j = a; most = omega arith; starts = refl; latency = l; ending = used refl (omega arith) c }
     came (suc k) a e latency l b c =
         rw made (go (same_to (at a) (at (suc a)) 24) refl (leb bound (raised_by stays (at (suc a)) latency)) refl (came k (suc a) (omega arith) _ risen))

@@ -1,5 +1,6 @@
 -- The table holds a list of inequalities: each place has the code of the definition's place, that is, of the largest weight for the
 -- pair. Putting one more inequality in gives the table of the list with it.
+use Rattle.std.specs.Prelude.{if◌then◌else◌}
 use mathlib.Core.Path.{◌≡◌, refl, sym, ◌∙◌, ap}
 use mathlib.Core.Logic.{◌⊎◌, inl, inr}
 use mathlib.Core.Bool.{Bool, true, false, ◌&&◌}
@@ -16,7 +17,6 @@ use lib.IntN.{ℤ}
 use lib.Signed.{le_z}
 use borrow.Author.Tests.{eq-eqb, ne_eqb}
 use Rattle.model.specs.declared.Delay.{Delay}
-use Rattle.model.specs.Common.{if◌then◌else◌}
 use Rattle.model.specs.Starts.{heavier, entry}
 use Rattle.model.proofs.BoolLaws.{and_false}
 use Rattle.weights.specs.Code.{Limited, coded, place_code, Fits}
@@ -34,7 +34,7 @@ code_at [] i j = 65535
 code_at (q ∷ qs) i j = kept (eqb q.from i && eqb q.to j) (coded q.weight) (code_at qs i j)
 
 code_heavier : (w : ℤ) (o : Option ℤ) → Limited w → coded (heavier w o) ≡ min (coded w) (place_code o)
-unfolding heavier place_code if◌then◌else◌
+unfolding heavier place_code
 code_heavier w none h = omega (arith, coded_most w h)
 code_heavier w (some v) h = go (le_z v w) refl
   where
@@ -44,7 +44,7 @@ code_heavier w (some v) h = go (le_z v w) refl
 
 -- it is that of the definition's place
 pub code_is : (n : ℕ) (qs : List Delay) → ((q : Delay) → Memᴰ q qs → Fits n q) → (i j : ℕ) → code_at qs i j ≡ place_code (entry qs i j)
-unfolding code_at entry place_code kept if◌then◌else◌
+unfolding code_at entry place_code kept
 code_is n [] f i j = refl
 code_is n (q ∷ qs) f i j = go (eqb q.from i && eqb q.to j) (code_is n qs (λ p m. f p (Memᴰ.tail m)) i j)
   where

@@ -1,5 +1,6 @@
 -- A round by the table is a round by the list of inequalities: start j by column j is the definition's raised start, and no inequality raises
 -- a start by more than 1,000.
+use Rattle.std.specs.Prelude.{if◌then◌else◌}
 use mathlib.Core.Path.{◌≡◌, refl, ap}
 use mathlib.Core.Bool.{Bool, true, false, ◌&&◌}
 use mathlib.Core.List.{List, [], ◌∷◌, Memᴰ}
@@ -11,7 +12,6 @@ use lib.Dec.{eqb}
 use lib.ListN.{get_or}
 use borrow.Author.Tests.{eqb-true, eq-eqb, ne_eqb}
 use Rattle.model.specs.declared.Delay.{Delay}
-use Rattle.model.specs.Common.{if◌then◌else◌}
 use Rattle.model.specs.Starts.{plus, raised}
 use Rattle.model.proofs.StartsLaws.{raised_old}
 use Rattle.model.proofs.BoundLaws.{Slow}
@@ -43,7 +43,7 @@ largest_below table high j (suc k) x f =
 module _ (n : ℕ) (old : List ℕ) (low : (i : ℕ) → get_or old i 0 ≤ 64535) (j : ℕ) where
   -- no place asks for more: the sum of an empty one is 0
   place_below : (qs : List Delay) → ((q : Delay) → Memᴰ q qs → Fits n q) → (i : ℕ) → get_or old i 0 + 1000 - code_at qs i j ≤ raised qs old j
-  unfolding raised if◌then◌else◌ kept code_at
+  unfolding raised kept code_at
   place_below [] f i = omega (arith, low i)
   place_below (q ∷ qs) f i = go (eqb q.from i) refl (eqb q.to j) (place_below qs (λ p m. f p (Memᴰ.tail m)) i)
     where
@@ -61,7 +61,7 @@ module _ (n : ℕ) (old : List ℕ) (low : (i : ℕ) → get_or old i 0 ≤ 6453
 
   -- and what the inequalities ask, some place asks
   raised_below : (qs : List Delay) → ((q : Delay) → Memᴰ q qs → Fits n q) → (x : ℕ) → get_or old j 0 ≤ x → ((i : ℕ) → i < n → get_or old i 0 + 1000 - code_at qs i j ≤ x) → raised qs old j ≤ x
-  unfolding raised if◌then◌else◌ kept code_at
+  unfolding raised kept code_at
   raised_below [] f x h g = h
   raised_below (q ∷ qs) f x h g =
       go (eqb q.to j) refl (raised_below qs (λ p m. f p (Memᴰ.tail m)) x h (λ i p. le_trans (more i) (g i p)))
@@ -99,14 +99,14 @@ module _ (n : ℕ) (old : List ℕ) (low : (i : ℕ) → get_or old i 0 ≤ 6453
 
 -- no inequality ends past n
 pub raised_past : (n : ℕ) (qs : List Delay) → ((q : Delay) → Memᴰ q qs → Fits n q) → (old : List ℕ) (j : ℕ) → n ≤ j → raised qs old j ≡ get_or old j 0
-unfolding raised if◌then◌else◌
+unfolding raised
 raised_past n [] f old j h = refl
 raised_past n (q ∷ qs) f old j h =
     rw (ne_eqb q.to j (λ e. omega (arith, (f q (Memᴰ.head refl)).to))) (raised_past n qs (λ p m. f p (Memᴰ.tail m)) old j h)
 
 -- only what the starts are at each place matters
 pub raised_cong : (qs : List Delay) (a b : List ℕ) → ((i : ℕ) → get_or a i 0 ≡ get_or b i 0) → (j : ℕ) → raised qs a j ≡ raised qs b j
-unfolding raised if◌then◌else◌
+unfolding raised
 raised_cong [] a b h j = h j
 raised_cong (q ∷ qs) a b h j = rw (h q.from, raised_cong qs a b h j)
 

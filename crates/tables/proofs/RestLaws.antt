@@ -1,4 +1,5 @@
 -- Tables widened by the rests: the longest rest, the stations for which ticks are too close, the stations of a place, and all places.
+use Rattle.std.specs.Prelude.{if◌then◌else◌}
 use Prim.Native.Nat.{ℕ, zero, suc, ◌+◌, ◌-◌, ◌/◌, ◌%◌, ◌^◌, ◌≤◌, ◌<◌, max}
 use mathlib.Core.Path.{◌≡◌, refl, sym, ap, ◌∙◌}
 use mathlib.Core.Logic.{◌⊎◌, inl, inr, ⊎_elim}
@@ -14,7 +15,6 @@ use lib.Bits.{bit_and, bit_or, and_step, or_step, and_shr, or_shr}
 use lib.Dec.{leb}
 use borrow.Author.Tests.{leb-true, le-leb, eqb-true, eq-eqb}
 use Rattle.model.specs.declared.Job.{Job}
-use Rattle.model.specs.Common.{if◌then◌else◌}
 use Rattle.model.specs.Batch.{bit}
 use Rattle.model.specs.Plan.{too_close}
 use Rattle.model.proofs.BoolLaws.{apart, decide, same_test}
@@ -89,7 +89,7 @@ module _ (rests : List ℕ) where
   close_none gap = record { each = λ s h. absurd (omega arith); others = λ s h. decide (bit 0 s) (bit_none 0 s refl) }
 
   pub close_more : (gap mask mask' n rest : ℕ) → CloseAt rests gap mask n → rest ≡ get_or rests n 0 → mask' ≡ close_mask mask n rest gap → CloseAt rests gap mask' (n + 1)
-  unfolding close_mask if◌then◌else◌
+  unfolding close_mask
   close_more gap mask mask' n rest c e m = by (leb gap rest) refl
     where
       -- station n is added

@@ -1,10 +1,9 @@
 -- A job's table widened by the rests. Its tick a stands at place a + 7, and station s stands at every place that is too close, for the rest of s, to a tick in which
 -- the job holds it.
-use Rattle.std.specs.Prelude.{ℕ, ◌+◌, ◌^◌, ◌≤◌, ◌<◌, ◌≡◌, true, false, List, get_or, leb}
+use Rattle.std.specs.Prelude.{ℕ, ◌+◌, ◌^◌, ◌≤◌, ◌<◌, ◌≡◌, true, false, List, get_or, leb, if◌then◌else◌}
 use Rattle.std.proofs.Math.IntN.{sub_ℕ}
 use Rattle.std.specs.Int.Bits.{bit_or}
 use Rattle.model.specs.declared.Job.{Job}
-use Rattle.model.specs.Common.{if◌then◌else◌}
 use Rattle.model.specs.Limits.{stations, most_rest}
 use Rattle.model.specs.Batch.{bit}
 use Rattle.model.specs.Plan.{too_close}

@@ -1,11 +1,11 @@
 -- The inequality of a turn, as the code stores it, is that of the definitions.
+use Rattle.std.specs.Prelude.{if◌then◌else◌}
 use mathlib.Core.Path.{◌≡◌, ◌∙◌}
 use Prim.Native.Nat.{ℕ, zero, suc, ◌+◌, ◌-◌, ◌/◌, ◌%◌, ◌≤◌}
 use native.Mathlib.Omega.{arith}
 use mathlib.Core.List.{List}
 use lib.ListN.{set}
 use borrow.Author.Tests.{eq-eqb, ne_eqb}
-use Rattle.model.specs.Common.{if◌then◌else◌}
 use Rattle.model.specs.Clash.{Clash}
 use Rattle.model.specs.Search.{side_of}
 use Rattle.clashes.specs.Code.{code_of}
@@ -18,11 +18,11 @@ use Rattle.weights.proofs.CodeLaws.{clash_i, clash_j, clash_d, side0_code, side0
 
 module _ (clash turn : ℕ) where
   even_turn : turn % 2 ≡ 0 → (turn_from clash turn ≡ clash / 2048) × ((turn_to clash turn ≡ clash / 64 % 32) × (turn_code clash turn ≡ 1021 - clash % 64))
-  unfolding turn_from turn_to turn_code if◌then◌else◌
+  unfolding turn_from turn_to turn_code
   even_turn h = let e = eq-eqb (turn % 2) 0 h in (rw e, (rw e, rw e))
 
   odd_turn : (turn % 2 ≡ 0 → ⊥) → (turn_from clash turn ≡ clash / 64 % 32) × ((turn_to clash turn ≡ clash / 2048) × (turn_code clash turn ≡ clash % 64 + 977))
-  unfolding turn_from turn_to turn_code if◌then◌else◌
+  unfolding turn_from turn_to turn_code
   odd_turn h = let e = ne_eqb (turn % 2) 0 h in (rw e, (rw e, rw e))
 
 -- the arrays with it; job numbers are results of calls

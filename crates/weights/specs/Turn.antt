@@ -1,6 +1,5 @@
 -- The inequality of a turn on the clash with a code: from i to j with d + 1 on side 0, from j to i with 1 − d on side 1; 1,000 less its weight.
-use Rattle.std.specs.Prelude.{ℕ, ◌+◌, ◌-◌, ◌/◌, ◌%◌, eqb}
-use Rattle.model.specs.Common.{if◌then◌else◌}
+use Rattle.std.specs.Prelude.{ℕ, ◌+◌, ◌-◌, ◌/◌, ◌%◌, eqb, if◌then◌else◌}
 
 unfoldable pub turn_from : ℕ → ℕ → ℕ
 turn_from clash turn = if eqb (turn % 2) 0 then clash / 2048 else clash / 64 % 32

@@ -1,22 +1,22 @@
 -- `job_lines::store` meets its contract, by whether there is room.
+use Rattle.std.specs.Prelude.{if◌then◌else◌}
 use borrow.Author.Rules.{rules}
 use borrow.Author.Tests.{lt-ltb, le-ltb}
-use Rattle.model.specs.Common.{if◌then◌else◌}
 use Rattle.claims.specs.JobLines.{stored}
 use Rattle.claims.proofs.job_lines.store.Goals as goal
 
 pub offset_bounds-starts-k : goal.offset_bounds-starts-k
-unfolding stored if◌then◌else◌
+unfolding stored
 offset_bounds-starts-k c = search rules
 
 pub bounds-starts-k : goal.bounds-starts-k
-unfolding stored if◌then◌else◌
+unfolding stored
 bounds-starts-k c = search rules
 
 pub returns-then-k-lt24 : goal.returns-then-k-lt24
-unfolding stored if◌then◌else◌
+unfolding stored
 returns-then-k-lt24 c = rw (lt-ltb _ 24 c.if-k-lt24.true)
 
 pub returns-else-k-lt24 : goal.returns-else-k-lt24
-unfolding stored if◌then◌else◌
+unfolding stored
 returns-else-k-lt24 c = rw (le-ltb _ 24 c.if-k-lt24.false)
