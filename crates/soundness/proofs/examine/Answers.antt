@@ -1,5 +1,4 @@
 -- `examine` meets its contract. Each early return is a part of soundness that fails; past them the state decides.
-use borrow.Author.Rules.{rules}
 use mathlib.Core.Path.{refl}
 use Rattle.model.proofs.BoolLaws.{passes}
 use Rattle.soundness.proofs.BatchLaws.{counts_jobs, counts_delays, counts_tabled, limits_soon, passed_delays}
@@ -39,4 +38,4 @@ stays_of-requires c = counts_tabled _ _ c.limits_pass.ensures c.if-not-limits_pa
 pub returns : goal.returns
 returns c = examined _ _ _ _ _ _ _ _ _ _ c.limits_pass.ensures c.if-not-limits_pass.false-raw c.read_delays-read.ensures c.if-not-read.false
     c.list_clashes-count.ensures c.if-count-gt1024.false c.read_delays_met.ensures c.if-not-read_delays_met.false-raw c.read_path-route.ensures c.state_ok.ensures
-    c.Stays-of.ensures c.ends_of-ends.ensures.0 c.ends_of-ends.ensures.1
+    c.stays_of.ensures c.ends_of-ends.ensures.0 c.ends_of-ends.ensures.1

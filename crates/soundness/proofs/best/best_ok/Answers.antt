@@ -1,13 +1,12 @@
 -- `best::best_ok` meets its contract.
-use borrow.Author.Rules.{rules}
 use Rattle.soundness.proofs.BestLaws.{best_none, best_some, best_late}
 use Rattle.soundness.proofs.best.best_ok.Goals as goal
 
 pub returns-in-Nothing : goal.returns-in-Nothing
-returns-in-Nothing c = best_none _ _ _ c.enum_told-1.given.1
+returns-in-Nothing c = best_none _ _ _ c.in-Nothing.is
 
 pub returns-then-latency-le43016 : goal.returns-then-latency-le43016
-returns-then-latency-le43016 c = best_some _ _ _ _ _ c.best-1.given.1 c.if-latency-le43016.true c.starts_ok.ensures
+returns-then-latency-le43016 c = best_some _ _ _ _ _ c.in-Latency.is c.if-latency-le43016.true c.starts_ok.ensures
 
 pub returns-else-latency-le43016 : goal.returns-else-latency-le43016
-returns-else-latency-le43016 c = best_late _ _ _ _ c.best-1.given.1 c.if-latency-le43016.false
+returns-else-latency-le43016 c = best_late _ _ _ _ c.in-Latency.is c.if-latency-le43016.false

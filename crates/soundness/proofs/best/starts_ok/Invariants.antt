@@ -1,10 +1,9 @@
 -- `best::starts_ok` meets its contract. The invariant: the starts from i on decide.
 use Prim.Native.Nat.{◌-◌}
 use mathlib.Core.Path.{◌≡◌}
-use borrow.Author.Rules.{rules}
 use Rattle.soundness.specs.Best.{starts_pass}
-use Rattle.model.proofs.AllLaws.{all_from, all_passed, all_failed, all_ended}
-use Rattle.soundness.proofs.BestLaws.{start_test, starts_start, start_low, start_high}
+use Rattle.model.proofs.AllLaws.{all_from}
+use Rattle.soundness.proofs.BestLaws.{start_test}
 use Rattle.soundness.proofs.best.starts_ok.Given as goal
 
 abbrev pub invariant-loop-i : goal.invariant-loop-i

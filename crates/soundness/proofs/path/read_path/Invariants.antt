@@ -1,11 +1,6 @@
 -- `path::read_path` meets its contract. The invariant: the first k places are read.
 use Prim.Native.Nat.{◌-◌, ◌≤◌}
-use mathlib.Core.Path.{refl}
-use native.Mathlib.Omega.{arith}
-use borrow.Author.Rules.{rules}
-use Rattle.model.proofs.BoolLaws.{passes}
-use Rattle.soundness.proofs.MarkLaws.{new_clash, new_side}
-use Rattle.soundness.proofs.PathLaws.{Read, read_none, read_more, read_bad, read_empty, read_end_lem}
+use Rattle.soundness.proofs.PathLaws.{Read}
 use Rattle.soundness.proofs.path.read_path.Given as goal
 
 abbrev pub invariant-loop-k : goal.invariant-loop-k

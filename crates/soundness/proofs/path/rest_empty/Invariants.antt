@@ -1,11 +1,8 @@
 -- `path::rest_empty` meets its contract. The invariant: what was seen and the places from k on decide together.
 use Prim.Native.Nat.{◌-◌}
-use mathlib.Core.Path.{◌≡◌, refl}
+use mathlib.Core.Path.{◌≡◌}
 use mathlib.Core.Bool.{◌&&◌}
-use mathlib.Core.Logic.{⊎_elim}
-use borrow.Author.Rules.{rules}
 use Rattle.soundness.specs.Path.{rest_empty}
-use Rattle.soundness.proofs.RestLaws.{rest_passed, rest_failed, rest_ended}
 use Rattle.soundness.proofs.path.rest_empty.Given as goal
 
 abbrev pub invariant-loop-k : goal.invariant-loop-k

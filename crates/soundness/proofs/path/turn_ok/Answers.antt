@@ -1,5 +1,4 @@
 -- `path::turn_ok` meets its contract.
-use borrow.Author.Rules.{rules}
 use Rattle.soundness.proofs.MarkLaws.{turn_over, turn_mark, turn_side}
 use Rattle.soundness.proofs.path.turn_ok.Goals as goal
 

@@ -1,5 +1,4 @@
 -- `state::path_ok` meets its contract.
-use borrow.Author.Rules.{rules}
 use Rattle.soundness.proofs.StateLaws.{path_turns, path_late, path_open, path_over}
 use Rattle.soundness.proofs.state.path_ok.Goals as goal
 

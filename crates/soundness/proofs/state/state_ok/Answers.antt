@@ -1,5 +1,4 @@
 -- `state::state_ok` meets its contract.
-use borrow.Author.Rules.{rules}
 use Rattle.soundness.proofs.StateLaws.{state_path, state_total, state_best}
 use Rattle.soundness.proofs.state.state_ok.Goals as goal
 
