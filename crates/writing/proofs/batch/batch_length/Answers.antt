@@ -1,12 +1,9 @@
 -- Each turn of `batch_length` adds the length of one job line to that of the other lines.
-use Prim.Native.Nat.{◌≤◌, ◌+◌, ◌*◌, ◌-◌}
 use mathlib.Core.Path.{◌≡◌, ap, sym, ◌∙◌}
 use native.Mathlib.Omega.{arith}
 use borrow.Author.Rules.{rules}
 use lib.ListN.{length}
 use Rattle.model.specs.Common.{count, joined}
-use Rattle.model.specs.Window.{window_text, window_lines}
-use Rattle.model.specs.Rest.{rest_text, rest_lines}
 use Rattle.frame_put.proofs.Pieces.{pieces, pieces_length}
 use Rattle.writing.proofs.Texts.{job_piece, jobs_text, read_length, batch_length}
 use Rattle.writing.proofs.batch.batch_length.Goals as goal

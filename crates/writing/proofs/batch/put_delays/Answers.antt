@@ -1,5 +1,4 @@
 -- Each turn of `put_delays` puts the line of one more delay of the columns behind those before it, and the delays of the columns are the batch's.
-use Prim.Native.Nat.{◌≤◌, ◌-◌}
 use mathlib.Core.Path.{ap, ◌∙◌}
 use native.Mathlib.Omega.{arith}
 use borrow.Author.Rules.{rules}
@@ -7,7 +6,7 @@ use Rattle.model.specs.Common.{joined}
 use Rattle.model.specs.Format.{delay_line}
 use Rattle.delay_list.specs.Columns.{delay_at}
 use Rattle.delay_list.proofs.ColumnLaws.{batch_delays}
-use Rattle.frame_put.proofs.Pieces.{joined_pieces, Filled, filled_none, filled_more, filled_all}
+use Rattle.frame_put.proofs.Pieces.{joined_pieces, filled_none, filled_more, filled_all}
 use Rattle.frame_put.proofs.Lengths.{delay_length}
 use Rattle.writing.proofs.Texts.{delays_size}
 use Rattle.writing.proofs.batch.put_delays.Goals as goal

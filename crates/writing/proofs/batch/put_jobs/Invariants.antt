@@ -1,12 +1,7 @@
 -- Each turn of `put_jobs` puts one job line behind those before it.
 use Prim.Native.Nat.{◌≤◌, ◌-◌}
-use mathlib.Core.Path.{ap, ◌∙◌}
-use native.Mathlib.Omega.{arith}
-use borrow.Author.Rules.{rules}
-use lib.ListN.{length}
-use Rattle.lines.specs.Write.{overwritten}
-use Rattle.frame_put.proofs.Pieces.{Filled, filled_none, filled_room, filled_more, filled_all}
-use Rattle.writing.proofs.Texts.{job_piece, jobs_text, read_line_lem, read_ticks, read_length}
+use Rattle.frame_put.proofs.Pieces.{Filled}
+use Rattle.writing.proofs.Texts.{job_piece}
 use Rattle.writing.proofs.batch.put_jobs.Given as goal
 
 abbrev pub invariant-loop-i : goal.invariant-loop-i

@@ -1,5 +1,4 @@
 -- `write_batch` asks 12, and then writes the text of a batch that stays within its arrays.
-use borrow.Author.Rules.{rules}
 use Rattle.writing.proofs.Answers.{text_as_lem, text_refused}
 use Rattle.model.proofs.BoolLaws.{passes, fails}
 use Rattle.writing.proofs.Refusals.{sound_bounded, batch_unsound, batch_sound}

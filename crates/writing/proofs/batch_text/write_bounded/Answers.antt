@@ -1,6 +1,5 @@
 -- `write_bounded` refuses a text longer than the buffer, and puts any other.
 use native.Mathlib.Omega.{arith}
-use borrow.Author.Rules.{rules}
 use Rattle.writing.proofs.Answers.{text_fits, text_long}
 use Rattle.writing.proofs.batch_text.write_bounded.Goals as goal
 

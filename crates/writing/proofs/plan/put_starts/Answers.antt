@@ -1,13 +1,12 @@
 -- Each turn of `put_starts` puts one start line behind those before it.
-use Prim.Native.Nat.{◌≤◌, ◌-◌}
 use mathlib.Core.Path.{ap}
 use native.Mathlib.Omega.{arith}
 use borrow.Author.Rules.{rules}
 use lib.ListN.{length}
 use Rattle.model.specs.Plan.{start}
-use Rattle.frame_put.proofs.Pieces.{Filled, filled_none, filled_more, filled_all}
+use Rattle.frame_put.proofs.Pieces.{filled_none, filled_more, filled_all}
 use Rattle.frame_put.proofs.Lengths.{start_length}
-use Rattle.writing.proofs.Texts.{start_piece, starts_text, starts_size}
+use Rattle.writing.proofs.Texts.{starts_text, starts_size}
 use Rattle.writing.proofs.plan.put_starts.Goals as goal
 
 pub loop-i-init : goal.loop-i-init

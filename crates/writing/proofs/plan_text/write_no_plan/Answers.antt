@@ -1,6 +1,5 @@
 -- `write_no_plan` refuses a text longer than the buffer, and puts any other.
 use native.Mathlib.Omega.{arith}
-use borrow.Author.Rules.{rules}
 use Rattle.frame_put.proofs.Lengths.{no_plan_length}
 use Rattle.writing.proofs.Answers.{text_fits, text_long}
 use Rattle.writing.proofs.plan_text.write_no_plan.Goals as goal

@@ -1,6 +1,5 @@
 -- `write_plan` asks 12, then 15, and then writes the text of an ended search.
 use mathlib.Core.Path.{refl}
-use borrow.Author.Rules.{rules}
 use Rattle.writing.proofs.Answers.{text_as_lem, text_refused}
 use Rattle.model.proofs.BoolLaws.{passes, fails}
 use Rattle.writing.proofs.Refusals.{sound_bounded, plan_unsound, plan_open, plan_ended}
