@@ -1,5 +1,4 @@
 -- `plan::is_kept` adds 1,000 and the code to starts of any two bytes, in numbers that hold the sums.
-use borrow.Author.Rules.{rules}
 use Rattle.judging.proofs.plan.is_kept.Goals as goal
 
 pub returns : goal.returns

@@ -1,7 +1,6 @@
 -- `plan::is_right` asks the latency only of a valid plan.
 use mathlib.Core.Path.{ap₂, ◌∙◌}
 use lib.Dec.{eqb}
-use borrow.Author.Rules.{rules}
 use Rattle.model.proofs.BoolLaws.{and_then, and_else}
 use Rattle.judging.proofs.plan.is_right.Goals as goal
 

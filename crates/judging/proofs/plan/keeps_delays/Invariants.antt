@@ -1,12 +1,8 @@
 -- `plan::keeps_delays` meets its contract. The invariant: the delays from k on decide.
 use Prim.Native.Nat.{◌-◌}
-use mathlib.Core.Path.{◌≡◌, refl, ◌∙◌}
-use native.Mathlib.Omega.{arith}
-use borrow.Author.Rules.{rules}
-use Rattle.model.proofs.AllLaws.{all_from, all_ended}
-use Rattle.weights.proofs.SoundLaws.{sound_read}
-use Rattle.opening.proofs.WithinLaws.{within_sound}
-use Rattle.judging.proofs.PlanLaws.{kept_test, test_more, test_not, kept_jobs, kept_all}
+use mathlib.Core.Path.{◌≡◌}
+use Rattle.model.proofs.AllLaws.{all_from}
+use Rattle.judging.proofs.PlanLaws.{kept_test}
 use Rattle.judging.proofs.plan.keeps_delays.Given as goal
 
 abbrev pub invariant-loop-k : goal.invariant-loop-k

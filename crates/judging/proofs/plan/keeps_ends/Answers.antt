@@ -1,16 +1,13 @@
 -- `plan::keeps_ends` meets its contract. The invariant: the jobs from i on decide.
-use Prim.Native.Nat.{◌-◌, ◌<◌}
+use Prim.Native.Nat.{◌<◌}
 use native.Mathlib.Omega.{arith}
-use mathlib.Core.Path.{◌≡◌}
-use lib.ListN.{length, length-map}
 use borrow.Author.Rules.{rules}
-use Rattle.model.specs.Judge.{keeps_ends}
-use Rattle.model.proofs.AllLaws.{all_from, all_ended}
-use Rattle.judging.proofs.PlanLaws.{end_test, test_more, test_not, ends_all, end_told}
+use Rattle.model.proofs.AllLaws.{all_ended}
+use Rattle.judging.proofs.PlanLaws.{test_more, test_not, ends_all, end_told}
 use Rattle.judging.proofs.plan.keeps_ends.Goals as goal
 
 pub loop-i-init : goal.loop-i-init
-loop-i-init c = (c.wide-n.ensures.0, (c.well_formed.0.1.1.1.1.1.1.1.0.1.0.1, ends_all _ _ _ c.wide-n.ensures.0))
+loop-i-init c = (c.wide-n.ensures.0, (search rules, ends_all _ _ _ c.wide-n.ensures.0))
 
 pub offset_bounds-batch-i : goal.offset_bounds-batch-i
 offset_bounds-batch-i c = omega (arith, c.loop-i-test.true, c.loop-i.invariant.0, c.requires.jobs.1)
@@ -27,11 +24,11 @@ bounds-starts-i c = omega (arith, c.loop-i-test.true, c.loop-i.invariant.0, c.re
 -- a start is outside
 pub returns-then-not-is_within : goal.returns-then-not-is_within
 returns-then-not-is_within c = let low : c.loop-i.i < 24 = omega (arith, c.loop-i-test.true, c.loop-i.invariant.0, c.requires.jobs.1) in
-    test_not _ _ _ _ c.loop-i.invariant.1.1 c.loop-i-test.true _ (end_told _ _ _ _ (omega (arith, c.loop-i.invariant.1.0)) c.is_Within.ensures) c.if-not-is_within.true-raw
+    test_not _ _ _ _ c.loop-i.invariant.1.1 c.loop-i-test.true _ (end_told _ _ _ _ (omega (arith, c.loop-i.invariant.1.0)) c.is_within.ensures) c.if-not-is_within.true-raw
 
 pub loop-i-preserved : goal.loop-i-preserved
 loop-i-preserved c = let low : c.loop-i.i < 24 = omega (arith, c.loop-i-test.true, c.loop-i.invariant.0, c.requires.jobs.1) in
-    (c.loop-i.invariant.0, (c.loop-i.invariant.1.0, test_more _ _ _ _ c.loop-i.invariant.1.1 c.loop-i-test.true _ (end_told _ _ _ _ (omega (arith, c.loop-i.invariant.1.0)) c.is_Within.ensures) c.if-not-is_within.false-raw))
+    (c.loop-i.invariant.0, (c.loop-i.invariant.1.0, test_more _ _ _ _ c.loop-i.invariant.1.1 c.loop-i-test.true _ (end_told _ _ _ _ (omega (arith, c.loop-i.invariant.1.0)) c.is_within.ensures) c.if-not-is_within.false-raw))
 
 pub returns : goal.returns
 returns c = all_ended _ _ _ _ c.loop-i.invariant.1.1 c.loop-i-test.false

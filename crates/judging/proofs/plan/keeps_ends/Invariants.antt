@@ -1,12 +1,10 @@
 -- `plan::keeps_ends` meets its contract. The invariant: the jobs from i on decide.
-use Prim.Native.Nat.{◌-◌, ◌<◌}
-use native.Mathlib.Omega.{arith}
+use Prim.Native.Nat.{◌-◌}
 use mathlib.Core.Path.{◌≡◌}
-use lib.ListN.{length, length-map}
-use borrow.Author.Rules.{rules}
+use lib.ListN.{length}
 use Rattle.model.specs.Judge.{keeps_ends}
-use Rattle.model.proofs.AllLaws.{all_from, all_ended}
-use Rattle.judging.proofs.PlanLaws.{end_test, test_more, test_not, ends_all, end_told}
+use Rattle.model.proofs.AllLaws.{all_from}
+use Rattle.judging.proofs.PlanLaws.{end_test}
 use Rattle.judging.proofs.plan.keeps_ends.Given as goal
 
 abbrev pub invariant-loop-i : goal.invariant-loop-i

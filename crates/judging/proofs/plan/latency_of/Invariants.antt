@@ -1,12 +1,7 @@
 -- `plan::latency_of` meets its contract. The invariant: the largest finish of the first i jobs.
 use Prim.Native.Nat.{◌≤◌, ◌-◌}
-use mathlib.Core.Path.{◌≡◌, refl, sym, ◌∙◌}
-use mathlib.Core.Logic.{⊎_elim}
-use native.Mathlib.Omega.{arith}
-use borrow.Author.Rules.{rules}
-use Rattle.opening.proofs.WithinLaws.{within_tabled}
+use mathlib.Core.Path.{◌≡◌}
 use Rattle.times.specs.Latency.{latency_of}
-use Rattle.times.proofs.LatencyLaws.{latency_none, latency_more, latency_law}
 use Rattle.judging.proofs.plan.latency_of.Given as goal
 
 abbrev pub invariant-loop-i : goal.invariant-loop-i
