@@ -14,7 +14,6 @@ use Rattle.model.specs.declared.Delay.{Delay}
 use Rattle.model.specs.declared.Turn.{Turn}
 use Rattle.model.specs.declared.Best.{Best}
 use Rattle.model.specs.declared.Best.TheVariants.{Nothing, Latency}
-use Rattle.model.specs.Common.{count}
 use Rattle.model.specs.Batch.{blank_delay, delays_of}
 use Rattle.model.specs.Limits.{most_clashes}
 use Rattle.model.specs.Clash.{clashes}

@@ -2,8 +2,7 @@
 use mathlib.Core.Path.{refl}
 use native.Mathlib.Omega.{arith}
 use borrow.Author.Rules.{rules}
-use Rattle.node.proofs.BackLaws.{Dropping, last_small, dropped_all, drops, moves}
-use Rattle.node.proofs.back.go_back.Reads as reads
+use Rattle.node.proofs.BackLaws.{last_small, dropped_all, drops, moves}
 use Rattle.node.proofs.back.go_back.Goals as goal
 
 pub loop-left-init : goal.loop-left-init

@@ -1,9 +1,5 @@
 -- `back::go_back` meets its contract. While turns of side 1 are dropped, what going back leaves of the rest is what it leaves of all.
-use mathlib.Core.Path.{refl}
-use native.Mathlib.Omega.{arith}
-use borrow.Author.Rules.{rules}
-use Rattle.node.proofs.BackLaws.{Dropping, last_small, dropped_all, drops, moves}
-use Rattle.node.proofs.back.go_back.Reads as reads
+use Rattle.node.proofs.BackLaws.{Dropping}
 use Rattle.node.proofs.back.go_back.Given as goal
 
 abbrev pub invariant-loop-left : goal.invariant-loop-left

@@ -1,5 +1,4 @@
 -- `rows::begin` meets its contract: no turn, no row, or a row that is raised.
-use borrow.Author.Rules.{rules}
 use native.Mathlib.Omega.{arith}
 use Prim.Native.Nat.{◌-◌, ◌%◌}
 use mathlib.Core.Path.{refl}

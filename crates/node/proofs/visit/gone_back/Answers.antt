@@ -1,5 +1,4 @@
 -- `visit::gone_back` meets its contract: depth 0 means that no turn is left.
-use borrow.Author.Rules.{rules}
 use native.Mathlib.Omega.{arith}
 use Prim.Native.Nat.{◌-◌}
 use mathlib.Core.Path.{refl}

@@ -1,5 +1,4 @@
 -- `visit::reach` meets its contract: a node that is at best's bound already goes back at once, and another where its rounds say so.
-use borrow.Author.Rules.{rules}
 use native.Mathlib.Omega.{arith}
 use Rattle.model.proofs.BoolLaws.{apart}
 use Rattle.node.proofs.ReachLaws.{begun_latency, begun_long, gone_at_once, reaches}
