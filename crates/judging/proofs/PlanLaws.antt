@@ -16,7 +16,7 @@ use Rattle.model.specs.declared.Delay.{Delay}
 use Rattle.model.specs.Common.{between, count, all, is_some}
 use Rattle.model.specs.Batch.{delay_of, delays_of, window_of, earliest, latest}
 use Rattle.model.specs.Plan.{start, finish, latency}
-use Rattle.model.specs.Clash.{Clash, clashes}
+use Rattle.model.specs.Clash.{clashes}
 use Rattle.model.specs.Search.{met, first_met}
 use Rattle.model.specs.Format.{Within}
 use Rattle.model.specs.Open.{few_clashes}

@@ -4,7 +4,6 @@ use Rattle.model.specs.declared.Search.{Search}
 use Rattle.model.specs.declared.Opening.TheVariants.{Refused}
 use Rattle.model.specs.Search.{fresh_search}
 use Rattle.model.specs.Open.{blank_search, opened_as}
-use borrow.Author.Rules.{rules}
 use Rattle.opening.proofs.open.refused.Goals as goal
 
 pub returns : goal.returns
