@@ -1,0 +1,12 @@
+-- `planner_c::calls::record_opened` meets its contract, by the cases of the answer.
+use Rattle.planner_c.specs.Calls.{record_opened}
+use borrow.Author.Rules.{rules}
+use Rattle.planner_c.proofs.calls.record_opened.Goals as goal
+
+pub returns-in-Accepted : goal.returns-in-Accepted
+unfolding record_opened
+returns-in-Accepted c = rw c.in-Accepted.is c.record_of-fresh.ensures
+
+pub returns-in-Refused : goal.returns-in-Refused
+unfolding record_opened
+returns-in-Refused c = rw c.in-Refused.is

@@ -1,0 +1,7 @@
+-- `planner_c::calls::run_record` meets its contract: its parts make it up.
+use Rattle.planner_c.proofs.CallLaws.{record_ran}
+use borrow.Author.Rules.{rules}
+use Rattle.planner_c.proofs.calls.run_record.Goals as goal
+
+pub returns : goal.returns
+returns c = record_ran _ _ _ _ _ _ _ _ c.search_in-search.ensures c.run-ran.ensures c.reply_of-reply.ensures c.record_after-after.ensures
