@@ -6,7 +6,7 @@
  * leaves the best plan found, which is told on standard error. Exit status: 0 with a text, 1 if the file or a run
  * is refused or the text cannot be written, 2 with wrong usage or a file that cannot be read.
  *
- * cc -std=c99 -O2 -I include -o target/kiosk examples/kiosk.c target/staticlib/libplanner_c.a
+ * cc -std=c99 -O2 -I include -o target/kiosk examples/kiosk.c crates/planner_c/out/libplanner_c.a
  */
 #define _POSIX_C_SOURCE 200809L
 #include "planner.h"

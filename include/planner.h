@@ -1,4 +1,4 @@
-/* The kiosk batch planner's library: libplanner_c.a, made by `rt staticlib planner_c`. Linux, x86-64; C99 or C++.
+/* The kiosk batch planner's library: libplanner_c.a, made by `rt lib` in crates/planner_c. Linux, x86-64; C99 or C++.
  *
  * A batch file is opened once; its search is then run in budgets of nodes, as small as the caller likes, until the
  * answer is a plan or no plan; then the plan is written as text. The search lives in a planner_record that the

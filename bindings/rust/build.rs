@@ -1,4 +1,4 @@
-//! Links the planner's archive, libplanner_c.a: from the folder named by PLANNER_LIBRARY_DIR, else from the repository's target/staticlib.
+//! Links the planner's archive, libplanner_c.a: from the folder named by PLANNER_LIBRARY_DIR, else from the repository's crates/planner_c/out.
 //! The archive is for Linux on x86-64; a build for any other target stops here.
 use std::env;
 use std::path::PathBuf;
@@ -25,7 +25,7 @@ fn main() {
     println!("cargo:rerun-if-env-changed={VARIABLE}");
     let folder = match env::var_os(VARIABLE) {
         Some(named) => PathBuf::from(named),
-        None => PathBuf::from(env::var_os("CARGO_MANIFEST_DIR").expect("cargo names the package's folder")).join("../../target/staticlib"),
+        None => PathBuf::from(env::var_os("CARGO_MANIFEST_DIR").expect("cargo names the package's folder")).join("../../crates/planner_c/out"),
     };
     if folder.is_relative() {
         stop(&format!("{VARIABLE} is '{}'; name the folder by its full path", folder.display()));
@@ -33,7 +33,7 @@ fn main() {
     let archive = folder.join(ARCHIVE);
     if !archive.is_file() {
         stop(&format!(
-            "no {ARCHIVE} in '{}'; build it with `rt staticlib planner_c` in the planner's repository, which leaves it in target/staticlib, \
+            "no {ARCHIVE} in '{}'; build it with `rt lib` in crates/planner_c of the planner's repository, which leaves it in out/ there, \
              or name its folder in {VARIABLE}",
             folder.display()
         ));

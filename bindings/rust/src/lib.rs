@@ -28,7 +28,7 @@
 //! # Linking
 //!
 //! The build links `libplanner_c.a` from the folder that the environment variable `PLANNER_LIBRARY_DIR` names, else from the repository's
-//! `target/staticlib`, where `rt staticlib planner_c` leaves it. It is for Linux on x86-64 and stops for any other target. An archive of another
+//! `crates/planner_c/out`, where `rt lib` leaves it. It is for Linux on x86-64 and stops for any other target. An archive of another
 //! version than [`VERSION`] does not link.
 #![warn(missing_docs)]
 

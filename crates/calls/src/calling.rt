@@ -29,7 +29,7 @@ pub fn unknown(search: Search, out: &mut [u8]) -> Done {
 
 // Opens the file of a line.
 pub fn open(search: Search, line: &[u8], out: &mut [u8]) -> Done {
-    let mut file = io::large_buffer();
+    let mut file = [0u8; 65536];
     let count = read_file(line, &mut file);
     opened(search, &file, count, out)
 }
@@ -112,8 +112,8 @@ pub fn judge(search: Search, line: &[u8], out: &mut [u8]) -> Done {
     if blank < 2 {
         return unknown(search, out);
     }
-    let mut file = io::large_buffer();
-    let mut text = io::large_buffer();
+    let mut file = [0u8; 65536];
+    let mut text = [0u8; 65536];
     let count = read_file(&line[0..blank], &mut file);
     let size = read_file(&line[blank - 1..], &mut text);
     judged(search, &file, count, &text, size, out)

@@ -13,8 +13,8 @@ mod text;
 mod weight;
 mod widths;
 
-use libc::{STDIN_FILENO, STDOUT_FILENO};
 use model::Search;
+use std::io::Read;
 use text::put;
 
 // The present record, the length of the line that is being read, and whether more may come.
@@ -25,11 +25,12 @@ struct State {
     more: bool,
 }
 
-fn main() {
+fn main(rt: HostRuntime) {
     let mut line = [0u8; 131080];
     let opened = planner::open(&line[0..0]);
     let search = opened.search;
     answer_all(
+        &rt,
         State {
             search: search,
             filled: 0,
@@ -40,33 +41,32 @@ fn main() {
 }
 
 // A proved loop has to end, and nothing says that input does: the loop counts its turns down from a number that no run uses up.
-fn answer_all(state: State, line: &mut [u8]) {
+fn answer_all(rt: &(impl Input + Print), state: State, line: &mut [u8]) {
+    let mut from = rt.reader();
     let mut now = state;
     let mut turns = u64::MAX;
     while turns > 0 && now.more {
-        now = read_some(now, line);
+        now = read_some(rt, &mut from, now, line);
         turns -= 1;
     }
 }
 
 // Reads once, and takes what came.
-fn read_some(state: State, line: &mut [u8]) -> State {
-    let mut chunk = io::large_buffer();
-    let got = libc::read(STDIN_FILENO, &mut chunk);
+fn read_some(rt: &impl Print, from: &mut impl Read, state: State, line: &mut [u8]) -> State {
+    let mut chunk = [0u8; 65536];
     let search = state.search;
-    if got <= 0 {
-        return State {
+    match from.read(&mut chunk) {
+        Ok(0) | Err(_) => State {
             search: search,
             filled: 0,
             more: false,
-        };
+        },
+        Ok(count) => take(rt, state, &chunk[0..count], line),
     }
-    let count = io::count(got, &chunk);
-    take(state, &chunk[0..count], line)
 }
 
 // Takes each byte into the line, and answers each line.
-fn take(state: State, chunk: &[u8], line: &mut [u8]) -> State {
+fn take(rt: &impl Print, state: State, chunk: &[u8], line: &mut [u8]) -> State {
     let mut search = state.search;
     let mut filled = state.filled;
     let mut i = 0;
@@ -74,7 +74,7 @@ fn take(state: State, chunk: &[u8], line: &mut [u8]) -> State {
         let byte = chunk[i];
         let next = put(line, filled, byte);
         if byte == 10 {
-            search = answer(search, line, filled);
+            search = answer(rt, search, line, filled);
             filled = 0;
         } else {
             filled = next;
@@ -89,27 +89,27 @@ fn take(state: State, chunk: &[u8], line: &mut [u8]) -> State {
 }
 
 // Answers the line of a length; one that fills its room was too long.
-fn answer(search: Search, line: &[u8], length: usize) -> Search {
+fn answer(rt: &impl Print, search: Search, line: &[u8], length: usize) -> Search {
     let mut out = [0u8; 16384];
     if length < line.len() {
-        answer_line(search, &line[0..length], &mut out)
+        answer_line(rt, search, &line[0..length], &mut out)
     } else {
         // A line of no letter, which names no call.
-        answer_line(search, &line[0..0], &mut out)
+        answer_line(rt, search, &line[0..0], &mut out)
     }
 }
 
-fn answer_line(search: Search, line: &[u8], out: &mut [u8]) -> Search {
+fn answer_line(rt: &impl Print, search: Search, line: &[u8], out: &mut [u8]) -> Search {
     let done = commands::call(search, line, out);
     let next = done.search;
-    print(out, done.length);
+    print(rt, out, done.length);
     next
 }
 
 // Writes the first bytes of a buffer, and 0A behind them.
-fn print(out: &mut [u8], length: usize) {
+fn print(rt: &impl Print, out: &mut [u8], length: usize) {
     let count = put(out, length, b'\n');
     if count <= out.len() {
-        io::write_all(STDOUT_FILENO, &out[0..count]);
+        let _ = rt.write_all(&out[0..count]);
     }
 }

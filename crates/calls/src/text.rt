@@ -1,6 +1,7 @@
 // Bytes of a line that is read, and bytes, numbers and lists put into a line that is written. Each function that puts something
 // answers the next place. A place past the end reads as 0, and nothing is put there.
 use crate::widths::of_pair;
+use itoa::Buffer;
 
 // A byte of a text.
 pub fn byte_of(text: &[u8], at: usize) -> u8 {
@@ -29,10 +30,9 @@ pub fn put_text(out: &mut [u8], at: usize, text: &[u8]) -> usize {
 
 // A mark, then a number in decimal.
 pub fn put_number(out: &mut [u8], at: usize, mark: u8, number: u64) -> usize {
-    let mut digits = [0u8; 20];
-    let count = io::decimal(number, &mut digits);
+    let mut digits = Buffer::new();
     let next = put(out, at, mark);
-    put_text(out, next, &digits[0..count])
+    put_text(out, next, digits.format(number).as_bytes())
 }
 
 // The places of a list, each after a blank.

@@ -1,5 +1,5 @@
 // Standard input, however the reads are cut.
-use libc::STDIN_FILENO;
+use std::io::Read;
 
 // How many bytes of the buffer are filled, whether more may come, and whether a read failed.
 #[derive(Clone, Copy)]
@@ -10,7 +10,7 @@ pub struct Input {
 }
 
 // Reads once into what is left of the buffer.
-fn read_some(buffer: &mut [u8], filled: usize) -> Input {
+fn read_some(from: &mut impl Read, buffer: &mut [u8], filled: usize) -> Input {
     if buffer.len() <= filled {
         return Input {
             filled,
@@ -18,25 +18,28 @@ fn read_some(buffer: &mut [u8], filled: usize) -> Input {
             failed: false,
         };
     }
-    let got = libc::read(STDIN_FILENO, &mut buffer[filled..]);
-    if got <= 0 {
-        return Input {
+    match from.read(&mut buffer[filled..]) {
+        Ok(0) => Input {
             filled,
             more: false,
-            failed: got < 0,
-        };
-    }
-    let count = io::count(got, &buffer[filled..]);
-    Input {
-        filled: filled + count,
-        more: true,
-        failed: false,
+            failed: false,
+        },
+        Ok(count) => Input {
+            filled: filled + count,
+            more: true,
+            failed: false,
+        },
+        Err(_) => Input {
+            filled,
+            more: false,
+            failed: true,
+        },
     }
 }
 
 // Fills the buffer until it is full, the input ends or a read fails. A proved loop has to end, so it counts its turns down from a number
 // that no run uses up.
-pub fn read_all(buffer: &mut [u8]) -> Input {
+pub fn read_all(from: &mut impl Read, buffer: &mut [u8]) -> Input {
     let mut input = Input {
         filled: 0,
         more: true,
@@ -44,7 +47,7 @@ pub fn read_all(buffer: &mut [u8]) -> Input {
     };
     let mut turns = u64::MAX;
     while turns > 0 && input.more {
-        input = read_some(buffer, input.filled);
+        input = read_some(from, buffer, input.filled);
         turns -= 1;
     }
     input

@@ -5,46 +5,51 @@
 mod input;
 mod text;
 
-use libc::{STDERR_FILENO, STDOUT_FILENO};
+use std::env::{Env, FillError};
 
-fn main() {
-    if 1 < os::arg_count() {
-        io::write_all(
-            STDERR_FILENO,
-            b"plan: takes no arguments; the batch file comes on standard input, as in: plan < FILE\n",
+fn main(rt: HostRuntime) {
+    if has_arguments(&rt) {
+        let _ = eprintln!(rt;
+            "plan: takes no arguments; the batch file comes on standard input, as in: plan < FILE"
         );
         return;
     }
-    plan_input();
+    plan_input(&rt);
+}
+
+// Whether there is an argument behind the program's name.
+fn has_arguments(rt: &impl Env) -> bool {
+    let mut first = [0u8; 1];
+    !matches!(rt.arg(1, &mut first), Err(FillError::NotPresent))
 }
 
 // The text for what standard input has.
-fn plan_input() {
-    let mut file = io::large_buffer();
-    let got = input::read_all(&mut file);
+fn plan_input(rt: &(impl Input + Print + Eprint)) {
+    let mut file = [0u8; 65536];
+    let got = input::read_all(&mut rt.reader(), &mut file);
     if got.failed {
-        io::write_all(STDERR_FILENO, b"plan: standard input cannot be read\n");
+        let _ = eprintln!(rt; "plan: standard input cannot be read");
         return;
     }
-    print(&file, got.filled);
+    print(rt, &file, got.filled);
 }
 
 // The text for the first bytes of a buffer.
-fn print(file: &[u8], filled: usize) {
+fn print(rt: &(impl Print + Eprint), file: &[u8], filled: usize) {
     if file.len() < filled {
         return;
     }
     let mut text = [0u8; 256];
     let batch = &file[..filled];
     let length = text::plan_text(batch, &mut text);
-    if !write_text(&text, length) {
-        io::write_all(STDERR_FILENO, b"plan: standard output cannot be written\n");
+    if !write_text(rt, &text, length) {
+        let _ = eprintln!(rt; "plan: standard output cannot be written");
     }
 }
 
-fn write_text(text: &[u8], length: usize) -> bool {
+fn write_text(rt: &impl Print, text: &[u8], length: usize) -> bool {
     if text.len() < length {
         return false;
     }
-    io::write_all(STDOUT_FILENO, &text[..length])
+    rt.write_all(&text[..length]).is_ok()
 }
