@@ -1,6 +1,5 @@
 -- The loop over the distances of a pair adds the pair's codes, and these are the codes of the model's clashes of the two jobs: the one's table, widened by the rests, meets
 -- the other's exactly where the jobs clash.
-use Rattle.std.specs.Prelude.{if◌then◌else◌}
 use Prim.Native.Nat.{ℕ, zero, suc, ◌+◌, ◌-◌, ◌*◌, ◌≤◌, ◌<◌}
 use mathlib.Core.Path.{◌≡◌, refl, sym, ap, ◌∙◌}
 use mathlib.Core.Bool.{Bool, true, false}

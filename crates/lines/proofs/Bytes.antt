@@ -1,5 +1,4 @@
 -- The bytes of a line's characters: there are some exactly where the count is even and all are digits, half as many, each the value of two.
-use Rattle.std.specs.Prelude.{if◌then◌else◌}
 use Prim.Native.Nat.{ℕ, zero, suc, ◌+◌, ◌*◌, ◌%◌}
 use mathlib.Core.Path.{◌≡◌, refl, ap₂, sym, ◌∙◌}
 use mathlib.Core.Bool.{true, false}

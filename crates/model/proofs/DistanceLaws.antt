@@ -5,7 +5,7 @@ use mathlib.Core.Bool.{Bool, true, false, cond}
 use native.Mathlib.Omega.{arith}
 use lib.IntN.{ℤ, pos, negsuc, sub_ℕ, ◌-ℤ◌}
 use lib.Signed.{◌≤ℤ◌}
-use lib.Dec.{leb, ltb, le→leb}
+use lib.Dec.{ltb, le→leb}
 use borrow.Author.Tests.{leb-true, le-leb, ltb-true, ltb-false, eqb-true, eq-eqb}
 use Rattle.model.specs.Common.{eq_z}
 use Rattle.model.specs.Plan.{too_close}

@@ -1,6 +1,6 @@
 -- Judging a plan text: what is passed is exactly a right plan text of a file that opens, each refusal says what 02 says of it, and the plan text of a search
 -- opened here is right.
-use Prim.Native.Nat.{ℕ, ◌+◌, ◌-◌, ◌<◌}
+use Prim.Native.Nat.{ℕ, ◌-◌, ◌<◌}
 use mathlib.Core.Path.{◌≡◌, refl, ap, ap₂, sym, ◌∙◌, subst}
 use mathlib.Core.Logic.{◌↔◌}
 use mathlib.Core.Bool.{Bool, true, false, not, ◌&&◌}

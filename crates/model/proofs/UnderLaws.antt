@@ -1,6 +1,5 @@
 -- Rounds from any starts that are at or below every solution: they lead to the least starts, and a latency at or above best's on the way sends
 -- the node back. So a node may begin where its parent stood, raised by its last turn, and stop at best.
-use Rattle.std.specs.Prelude.{if◌then◌else◌}
 use Prim.Native.Nat.{ℕ, suc, ◌≤◌, ◌<◌, max}
 use mathlib.Core.Path.{◌≡◌, refl, ap, sym, ◌∙◌}
 use mathlib.Core.Logic.{◌⊎◌, inl, inr}

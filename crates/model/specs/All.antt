@@ -1,5 +1,4 @@
 -- One name that unfolds every definition, for the theorems that compute with them.
-use Rattle.std.specs.Prelude.{if◌then◌else◌}
 use Rattle.model.specs.Common.{between, eq_z, count, all, any, keep, up_to, pad, joined, is_empty, is_some, ◌>>=◌, require, given}
 use Rattle.model.specs.Batch.{blank_job, blank_delay, blank_window, job_of, ticks, mask, bit, delay_of, delays_of, rest_of, window_of, lined, earliest, latest, earliest_starts, latest_starts}
 use Rattle.model.specs.Plan.{start, Keeps, Holds, KeepsDelays, too_close, Apart, KeepsStations, KeepsEnds, stay_in, stay, finish, latency}

@@ -1,10 +1,9 @@
 -- `list_columns` meets its contract. The invariant: the columns are those of the first k delays.
 use Prim.Native.Nat.{ℕ, ◌<◌}
-use mathlib.Core.Path.{◌≡◌, refl, sym, ap, ◌∙◌}
+use mathlib.Core.Path.{refl, ap, ◌∙◌}
 use mathlib.Core.List.{List}
 use native.Mathlib.Omega.{arith}
-use borrow.Author.Rules.{rules}
-use lib.ListN.{length, get_or, set, take}
+use lib.ListN.{length, get_or, set}
 use lib.IntN.{ℤ, pos}
 use lib.Seq.{take_all}
 use Rattle.std.proofs.Common.{add-one}

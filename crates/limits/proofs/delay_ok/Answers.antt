@@ -1,6 +1,5 @@
 -- `delay_ok` meets its contract.
 use mathlib.Core.Path.{◌∙◌}
-use borrow.Author.Rules.{rules}
 use Rattle.model.proofs.BoolLaws.{and_then, and_else}
 use Rattle.limits.proofs.delay_ok.Goals as goal
 

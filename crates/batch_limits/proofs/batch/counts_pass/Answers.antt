@@ -1,6 +1,5 @@
 -- `batch::counts_pass` meets its contract.
 use mathlib.Core.Path.{sym, ◌∙◌}
-use borrow.Author.Rules.{rules}
 use Rattle.model.proofs.BoolLaws.{and_then, and_else}
 use Rattle.batch_limits.specs.Limits.{counts_pass}
 use Rattle.batch_limits.proofs.LimitLaws.{few_jobs}

@@ -1,5 +1,4 @@
 -- `batch::limits_pass` meets its contract: each part that fails decides.
-use borrow.Author.Rules.{rules}
 use Rattle.batch_limits.proofs.FurtherLaws.{limits_counts, limits_jobs, limits_edition, limits_further}
 use Rattle.batch_limits.proofs.batch.limits_pass.Goals as goal
 

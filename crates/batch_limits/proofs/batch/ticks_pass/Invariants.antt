@@ -1,11 +1,9 @@
 -- `batch::ticks_pass` meets its contract. The invariant: the jobs from i on decide.
 use Prim.Native.Nat.{◌-◌}
 use mathlib.Core.Path.{◌≡◌}
-use borrow.Author.Rules.{rules}
 use Rattle.batch_limits.specs.Limits.{ticks_pass}
-use Rattle.model.proofs.BoolLaws.{passes, fails}
-use Rattle.model.proofs.AllLaws.{all_from, all_passed, all_failed, all_ended}
-use Rattle.batch_limits.proofs.LimitLaws.{tick_test, ticks_start, tick_told}
+use Rattle.model.proofs.AllLaws.{all_from}
+use Rattle.batch_limits.proofs.LimitLaws.{tick_test}
 use Rattle.batch_limits.proofs.batch.ticks_pass.Given as goal
 
 abbrev pub invariant-loop-i : goal.invariant-loop-i

@@ -1,5 +1,4 @@
 -- `further::edition_pass` meets its contract.
-use borrow.Author.Rules.{rules}
 use Rattle.batch_limits.proofs.FurtherLaws.{edition_two, edition_one, edition_none}
 use Rattle.batch_limits.proofs.further.edition_pass.Goals as goal
 

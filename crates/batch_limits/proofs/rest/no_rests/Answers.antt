@@ -1,10 +1,8 @@
 -- `rest::no_rests` meets its contract. The invariant: the stations from s on decide.
-use Prim.Native.Nat.{◌-◌}
-use mathlib.Core.Path.{◌≡◌, refl, ◌∙◌}
-use borrow.Author.Rules.{rules}
+use mathlib.Core.Path.{refl, ◌∙◌}
 use borrow.Author.Tests.{eq-eqb, ne_eqb}
-use Rattle.model.proofs.AllLaws.{all_from, all_passed, all_failed, all_ended}
-use Rattle.batch_limits.proofs.FurtherLaws.{restless, restless_start}
+use Rattle.model.proofs.AllLaws.{all_passed, all_failed, all_ended}
+use Rattle.batch_limits.proofs.FurtherLaws.{restless_start}
 use Rattle.batch_limits.proofs.rest.no_rests.Goals as goal
 
 pub loop-s-init : goal.loop-s-init

@@ -1,10 +1,8 @@
 -- `rest::no_rests` meets its contract. The invariant: the stations from s on decide.
 use Prim.Native.Nat.{◌-◌}
-use mathlib.Core.Path.{◌≡◌, refl, ◌∙◌}
-use borrow.Author.Rules.{rules}
-use borrow.Author.Tests.{eq-eqb, ne_eqb}
-use Rattle.model.proofs.AllLaws.{all_from, all_passed, all_failed, all_ended}
-use Rattle.batch_limits.proofs.FurtherLaws.{restless, restless_start}
+use mathlib.Core.Path.{◌≡◌}
+use Rattle.model.proofs.AllLaws.{all_from}
+use Rattle.batch_limits.proofs.FurtherLaws.{restless}
 use Rattle.batch_limits.proofs.rest.no_rests.Given as goal
 
 abbrev pub invariant-loop-s : goal.invariant-loop-s

@@ -1,10 +1,8 @@
 -- `rest::rests_pass` meets its contract. The invariant: the stations from s on decide.
-use Prim.Native.Nat.{◌-◌}
-use mathlib.Core.Path.{◌≡◌, refl, ◌∙◌}
-use borrow.Author.Rules.{rules}
+use mathlib.Core.Path.{refl, ◌∙◌}
 use Rattle.model.proofs.BoolLaws.{passes, fails}
-use Rattle.model.proofs.AllLaws.{all_from, all_passed, all_failed, all_ended}
-use Rattle.batch_limits.proofs.FurtherLaws.{rest_test, rests_start}
+use Rattle.model.proofs.AllLaws.{all_passed, all_failed, all_ended}
+use Rattle.batch_limits.proofs.FurtherLaws.{rests_start}
 use Rattle.batch_limits.proofs.rest.rests_pass.Goals as goal
 
 pub loop-s-init : goal.loop-s-init

@@ -1,10 +1,8 @@
 -- `rest::rests_pass` meets its contract. The invariant: the stations from s on decide.
 use Prim.Native.Nat.{◌-◌}
-use mathlib.Core.Path.{◌≡◌, refl, ◌∙◌}
-use borrow.Author.Rules.{rules}
-use Rattle.model.proofs.BoolLaws.{passes, fails}
-use Rattle.model.proofs.AllLaws.{all_from, all_passed, all_failed, all_ended}
-use Rattle.batch_limits.proofs.FurtherLaws.{rest_test, rests_start}
+use mathlib.Core.Path.{◌≡◌}
+use Rattle.model.proofs.AllLaws.{all_from}
+use Rattle.batch_limits.proofs.FurtherLaws.{rest_test}
 use Rattle.batch_limits.proofs.rest.rests_pass.Given as goal
 
 abbrev pub invariant-loop-s : goal.invariant-loop-s

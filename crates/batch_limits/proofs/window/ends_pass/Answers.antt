@@ -1,5 +1,4 @@
 -- `window::ends_pass` meets its contract.
-use borrow.Author.Rules.{rules}
 use Rattle.batch_limits.proofs.FurtherLaws.{ends_lined, ends_free, ends_late}
 use Rattle.batch_limits.proofs.window.ends_pass.Goals as goal
 

@@ -1,11 +1,9 @@
 -- `window::no_windows` meets its contract. The invariant: the jobs from i on decide.
-use Prim.Native.Nat.{◌-◌}
-use mathlib.Core.Path.{◌≡◌, refl, ◌∙◌}
-use lib.ListN.{length, length-map}
+use mathlib.Core.Path.{refl, ◌∙◌}
 use borrow.Author.Rules.{rules}
 use borrow.Author.Tests.{eq-eqb, ne_eqb}
-use Rattle.batch_limits.proofs.FurtherLaws.{line_test, none_start, line_told}
-use Rattle.model.proofs.AllLaws.{all_from, all_passed, all_failed, all_ended}
+use Rattle.batch_limits.proofs.FurtherLaws.{none_start, line_told}
+use Rattle.model.proofs.AllLaws.{all_passed, all_failed, all_ended}
 use Rattle.batch_limits.proofs.window.no_windows.Goals as goal
 
 pub loop-i-init : goal.loop-i-init

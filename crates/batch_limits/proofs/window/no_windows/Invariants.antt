@@ -1,11 +1,9 @@
 -- `window::no_windows` meets its contract. The invariant: the jobs from i on decide.
 use Prim.Native.Nat.{◌-◌}
-use mathlib.Core.Path.{◌≡◌, refl, ◌∙◌}
-use lib.ListN.{length, length-map}
-use borrow.Author.Rules.{rules}
-use borrow.Author.Tests.{eq-eqb, ne_eqb}
-use Rattle.batch_limits.proofs.FurtherLaws.{line_test, none_start, line_told}
-use Rattle.model.proofs.AllLaws.{all_from, all_passed, all_failed, all_ended}
+use mathlib.Core.Path.{◌≡◌}
+use lib.ListN.{length}
+use Rattle.batch_limits.proofs.FurtherLaws.{line_test}
+use Rattle.model.proofs.AllLaws.{all_from}
 use Rattle.batch_limits.proofs.window.no_windows.Given as goal
 
 abbrev pub invariant-loop-i : goal.invariant-loop-i

@@ -1,11 +1,9 @@
 -- `window::windows_pass` meets its contract. The invariant: the jobs from i on decide.
-use Prim.Native.Nat.{◌-◌}
-use mathlib.Core.Path.{◌≡◌, refl, ◌∙◌}
-use lib.ListN.{length, length-map}
+use mathlib.Core.Path.{refl, ◌∙◌}
 use borrow.Author.Rules.{rules}
 use Rattle.model.proofs.BoolLaws.{passes, fails}
-use Rattle.batch_limits.proofs.FurtherLaws.{end_test, ends_start, ends_told}
-use Rattle.model.proofs.AllLaws.{all_from, all_passed, all_failed, all_ended}
+use Rattle.batch_limits.proofs.FurtherLaws.{ends_start, ends_told}
+use Rattle.model.proofs.AllLaws.{all_passed, all_failed, all_ended}
 use Rattle.batch_limits.proofs.window.windows_pass.Goals as goal
 
 pub loop-i-init : goal.loop-i-init

@@ -1,11 +1,9 @@
 -- `window::windows_pass` meets its contract. The invariant: the jobs from i on decide.
 use Prim.Native.Nat.{◌-◌}
-use mathlib.Core.Path.{◌≡◌, refl, ◌∙◌}
-use lib.ListN.{length, length-map}
-use borrow.Author.Rules.{rules}
-use Rattle.model.proofs.BoolLaws.{passes, fails}
-use Rattle.batch_limits.proofs.FurtherLaws.{end_test, ends_start, ends_told}
-use Rattle.model.proofs.AllLaws.{all_from, all_passed, all_failed, all_ended}
+use mathlib.Core.Path.{◌≡◌}
+use lib.ListN.{length}
+use Rattle.batch_limits.proofs.FurtherLaws.{end_test}
+use Rattle.model.proofs.AllLaws.{all_from}
 use Rattle.batch_limits.proofs.window.windows_pass.Given as goal
 
 abbrev pub invariant-loop-i : goal.invariant-loop-i

@@ -1,5 +1,4 @@
 -- `job_lines::store` meets its contract, by whether there is room.
-use Rattle.std.specs.Prelude.{if◌then◌else◌}
 use borrow.Author.Rules.{rules}
 use borrow.Author.Tests.{lt-ltb, le-ltb}
 use Rattle.claims.specs.JobLines.{stored}

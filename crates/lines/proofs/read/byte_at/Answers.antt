@@ -2,7 +2,6 @@
 use Prim.Native.Nat.{ℕ, ◌+◌, ◌*◌}
 use mathlib.Core.Path.{ap₂}
 use native.Mathlib.Omega.{arith}
-use borrow.Author.Rules.{rules}
 use Rattle.lines.specs.Read.{byte_at}
 use Rattle.lines.proofs.Digit.{value_below}
 use Rattle.lines.proofs.read.byte_at.Goals as goal

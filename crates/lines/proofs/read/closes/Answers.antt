@@ -1,7 +1,6 @@
 -- `closes` tests the character at a place; past the end there is none.
 use Prim.Native.Nat.{ℕ}
 use mathlib.Core.Path.{refl, ap, sym}
-use borrow.Author.Rules.{rules}
 use lib.ListN.{get_or-eq_default}
 use lib.Dec.{eqb}
 use Rattle.lines.specs.Read.{closes}

@@ -1,11 +1,8 @@
 -- `digits_end` passes one digit a turn, so that the digits still end at the same place.
 use Prim.Native.Nat.{◌-◌}
-use mathlib.Core.Path.{◌≡◌, refl, sym, ◌∙◌}
-use borrow.Author.Rules.{rules}
-use borrow.Author.Tests.{not-true, not-false}
+use mathlib.Core.Path.{◌≡◌}
 use lib.ListN.{length}
 use Rattle.lines.specs.Read.{digits_end}
-use Rattle.lines.proofs.Judged.{end_more, end_here, end_past}
 use Rattle.lines.proofs.read.digits_end.Given as goal
 
 abbrev pub invariant-loop-i : goal.invariant-loop-i

@@ -1,7 +1,6 @@
 -- `line_at` judges a line by where its digits end: each return is one step of the judgement.
 use mathlib.Core.Path.{sym, ◌∙◌}
 use native.Mathlib.Omega.{arith}
-use borrow.Author.Rules.{rules}
 use Rattle.lines.specs.Read.{digits_end}
 use Rattle.lines.proofs.Judged.{judged_empty, judged_odd, judged_open, judged_frame}
 use Rattle.lines.proofs.read.line_at.Goals as goal

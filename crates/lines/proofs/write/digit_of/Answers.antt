@@ -1,6 +1,4 @@
 -- `digit_of` takes the digit by the definition's own test.
-use Rattle.std.specs.Prelude.{if◌then◌else◌}
-use borrow.Author.Rules.{rules}
 use borrow.Author.Tests.{lt-ltb, le-ltb}
 use Rattle.model.specs.Line.{digit_of}
 use Rattle.lines.proofs.write.digit_of.Goals as goal

@@ -1,7 +1,6 @@
 -- `put_byte` stores a text of two characters.
 use mathlib.Core.Path.{refl}
 use native.Mathlib.Omega.{arith}
-use borrow.Author.Rules.{rules}
 use lib.ListN.{length-set}
 use Rattle.lines.proofs.Puts.{stores_byte}
 use Rattle.lines.proofs.write.put_byte.Goals as goal

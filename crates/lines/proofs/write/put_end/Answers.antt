@@ -1,7 +1,6 @@
 -- `put_end` stores a text of one character.
 use mathlib.Core.Path.{refl}
 use mathlib.Core.List.{[], ◌∷◌}
-use borrow.Author.Rules.{rules}
 use Rattle.lines.proofs.Puts.{stores}
 use Rattle.lines.proofs.write.put_end.Goals as goal
 

@@ -1,5 +1,4 @@
 -- `pairs::bit_of` meets its contract: a difference that is cut off at 0 is 0, which is no bit of a clash.
-use Rattle.std.specs.Prelude.{if◌then◌else◌}
 use Prim.Native.Nat.{◌-◌}
 use mathlib.Core.Path.{◌≡◌}
 use native.Mathlib.Omega.{arith}

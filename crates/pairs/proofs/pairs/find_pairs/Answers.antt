@@ -19,10 +19,10 @@ loop-k-preserved c =
     let g = c.loop-k.invariant.1 in
     let j = c.requires.known.each c.loop-k.k (search rules) in
     let opened : Opened c.args.codes.now c.if-code-last.pair c.loop-k.held c.loop-k.end c.if-code-last.pairs c.if-code-last.last c.if-code-last.bits c.loop-k.k =
-        elim c.if-code-last.branch [
-          then-code-last+else-pairs-eq276 w ↦ open_new _ _ _ _ _ _ _ _ g j w.if-pairs-eq276.false w.pair-is w.pairs-is w.last-is w.bits-is
-        | else-code-last w ↦ open_same _ _ _ _ _ _ _ _ g j w.if-code-last.false w.pair-is w.pairs-is w.last-is w.bits-is
-        ] in
+    elim c.if-code-last.branch [
+      | then-code-last+else-pairs-eq276 w ↦ open_new _ _ _ _ _ _ _ _ g j w.if-pairs-eq276.false w.pair-is w.pairs-is w.last-is w.bits-is
+      | else-code-last w ↦ open_same _ _ _ _ _ _ _ _ g j w.if-code-last.false w.pair-is w.pairs-is w.last-is w.bits-is
+    ] in
     (search rules, stored _ _ _ _ _ _ _ _ _ opened (c.requires.near.each _ (search rules)) refl)
 
 pub returns : goal.returns

@@ -1,10 +1,6 @@
 -- `pairs::find_pairs` meets its contract. The invariant: the pairs of the first k codes, with the last pair's parts also in locals.
 use Prim.Native.Nat.{◌≤◌, ◌-◌}
-use mathlib.Core.Path.{refl}
-use mathlib.Core.Logic.{⊎_elim}
-use native.Mathlib.Omega.{arith}
-use borrow.Author.Rules.{rules}
-use Rattle.pairs.proofs.PairedLaws.{Pairing, pairing_none, Opened, open_same, open_new, stored, paired_end}
+use Rattle.pairs.proofs.PairedLaws.{Pairing}
 use Rattle.pairs.proofs.pairs.find_pairs.Given as goal
 
 abbrev pub invariant-loop-k : goal.invariant-loop-k

@@ -1,8 +1,7 @@
 -- `pairs::unmet` meets its contract. The invariant: of whatever codes these are the pairs, the starts meet none of those before pair q.
-use Prim.Native.Nat.{◌≤◌, ◌-◌}
 use native.Mathlib.Omega.{arith}
 use borrow.Author.Rules.{rules}
-use Rattle.pairs.proofs.PassedLaws.{bit_small, Passing, passed_none, passed_more, passed_end}
+use Rattle.pairs.proofs.PassedLaws.{bit_small, passed_none, passed_more, passed_end}
 use Rattle.pairs.proofs.pairs.unmet.Goals as goal
 
 pub loop-q-init : goal.loop-q-init

@@ -1,10 +1,8 @@
 -- `meeting::tables_meet` meets its contract. The invariant: no place before x, of those that lie over a tick of the second table, shares a station.
 use Prim.Native.Nat.{◌+◌, ◌-◌, min}
 use mathlib.Core.Path.{◌≡◌}
-use borrow.Author.Count.{falls}
-use borrow.Author.Rules.{rules}
 use Rattle.tables.specs.Tables.{table_of}
-use Rattle.tables.proofs.TableLaws.{Clear, clear_none, clear_more, tables_met, tables_clear}
+use Rattle.tables.proofs.TableLaws.{Clear}
 use Rattle.tables.proofs.meeting.tables_meet.Given as goal
 
 abbrev pub invariant-loop-x : goal.invariant-loop-x

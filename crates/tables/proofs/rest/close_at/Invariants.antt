@@ -1,9 +1,6 @@
 -- `rest::close_at` meets its contract. The invariant: of the first s stations the mask holds those for which the ticks are too close.
 use Prim.Native.Nat.{◌≤◌, ◌-◌}
-use mathlib.Core.Path.{◌≡◌, refl}
-use borrow.Author.Rules.{rules}
 use Rattle.tables.specs.Rest.{CloseAt}
-use Rattle.tables.proofs.RestLaws.{close_none, close_more}
 use Rattle.tables.proofs.rest.close_at.Given as goal
 
 abbrev pub invariant-loop-s : goal.invariant-loop-s

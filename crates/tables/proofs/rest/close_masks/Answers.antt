@@ -1,9 +1,8 @@
 -- `rest::close_masks` meets its contract. The invariant: the masks of the differences so far are in their places, and all others are 0.
-use Prim.Native.Nat.{◌+◌, ◌-◌, ◌≤◌}
-use mathlib.Core.Path.{◌≡◌, refl}
+use mathlib.Core.Path.{refl}
 use native.Mathlib.Omega.{arith}
 use borrow.Author.Rules.{rules}
-use Rattle.tables.proofs.RestLaws.{Closing, closing_none, closing_more, closing_end}
+use Rattle.tables.proofs.RestLaws.{closing_none, closing_more, closing_end}
 use Rattle.tables.proofs.rest.close_masks.Goals as goal
 
 -- no station rests

@@ -1,9 +1,6 @@
 -- `rest::longest_rest` meets its contract. The invariant: none of the first s rests is above the longest so far.
 use Prim.Native.Nat.{◌≤◌, ◌-◌}
-use mathlib.Core.Path.{◌≡◌}
-use borrow.Author.Rules.{rules}
 use Rattle.tables.specs.Rest.{Longest}
-use Rattle.tables.proofs.RestLaws.{longest_none, longest_more}
 use Rattle.tables.proofs.rest.longest_rest.Given as goal
 
 abbrev pub invariant-loop-s : goal.invariant-loop-s

@@ -1,10 +1,7 @@
 -- `rest::near_place` meets its contract. The invariant: the mask holds the stations of the first a ticks.
 use Prim.Native.Nat.{ℕ, ◌≤◌, ◌-◌}
-use mathlib.Core.Path.{◌≡◌}
 use mathlib.Core.List.{List}
-use borrow.Author.Rules.{rules}
 use Rattle.tables.specs.Rest.{Closes, Near}
-use Rattle.tables.proofs.RestLaws.{near_none, near_more}
 use Rattle.tables.proofs.rest.near_place.Given as goal
 
 abbrev pub invariant-loop-a : goal.invariant-loop-a

@@ -1,9 +1,7 @@
 -- `rest::widened` meets its contract. The invariant: the places so far are widened.
-use Prim.Native.Nat.{◌+◌, ◌-◌, ◌≤◌}
-use mathlib.Core.Path.{◌≡◌, refl}
+use mathlib.Core.Path.{refl}
 use borrow.Author.Rules.{rules}
-use Rattle.tables.specs.Tables.{table_of}
-use Rattle.tables.proofs.RestLaws.{plain_widens, Widening, widening_none, widening_more, widening_end}
+use Rattle.tables.proofs.RestLaws.{plain_widens, widening_none, widening_more, widening_end}
 use Rattle.tables.proofs.rest.widened.Goals as goal
 
 -- no station rests

@@ -1,9 +1,8 @@
 -- `rest::widened` meets its contract. The invariant: the places so far are widened.
 use Prim.Native.Nat.{◌+◌, ◌-◌, ◌≤◌}
-use mathlib.Core.Path.{◌≡◌, refl}
-use borrow.Author.Rules.{rules}
+use mathlib.Core.Path.{◌≡◌}
 use Rattle.tables.specs.Tables.{table_of}
-use Rattle.tables.proofs.RestLaws.{plain_widens, Widening, widening_none, widening_more, widening_end}
+use Rattle.tables.proofs.RestLaws.{Widening}
 use Rattle.tables.proofs.rest.widened.Given as goal
 
 abbrev pub invariant-loop-x : goal.invariant-loop-x

@@ -1,5 +1,4 @@
 -- `rest::with_station` meets its contract: 1 shifted by s is 2^s, which has 16 bits.
-use Rattle.std.specs.Prelude.{if◌then◌else◌}
 use Prim.Native.Nat.{◌*◌, ◌%◌, ◌^◌}
 use mathlib.Core.Path.{◌≡◌, ◌∙◌}
 use native.Mathlib.Omega.{arith}

@@ -2,12 +2,10 @@
 use native.Mathlib.Omega.{arith}
 use borrow.Author.Rules.{rules}
 use mathlib.Core.Path.{◌≡◌, ap}
-use Prim.Native.Nat.{◌≤◌, ◌-◌}
-use lib.ListN.{length, length-map}
+use lib.ListN.{length}
 use Rattle.model.specs.declared.Window.{Window}
-use Rattle.times.specs.Fill.{filled}
 use Rattle.times.proofs.FillLaws.{filled_none, filled_more}
-use Rattle.times.proofs.EndsLaws.{window_in, window_told_lem, earliest_read_lem, latest_read_lem}
+use Rattle.times.proofs.EndsLaws.{window_told_lem, earliest_read_lem, latest_read_lem}
 use Rattle.times.proofs.ends.ends_of.Goals as goal
 
 pub loop-i-init : goal.loop-i-init

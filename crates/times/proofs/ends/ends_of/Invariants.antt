@@ -1,13 +1,8 @@
 -- `ends_of` meets its contract. The loop's invariant: the first i places have the ends of the first i jobs.
-use native.Mathlib.Omega.{arith}
-use borrow.Author.Rules.{rules}
-use mathlib.Core.Path.{◌≡◌, ap}
+use mathlib.Core.Path.{◌≡◌}
 use Prim.Native.Nat.{◌≤◌, ◌-◌}
-use lib.ListN.{length, length-map}
-use Rattle.model.specs.declared.Window.{Window}
 use Rattle.times.specs.Fill.{filled}
-use Rattle.times.proofs.FillLaws.{filled_none, filled_more}
-use Rattle.times.proofs.EndsLaws.{window_in, window_told_lem, earliest_read_lem, latest_read_lem}
+use Rattle.times.proofs.EndsLaws.{window_in}
 use Rattle.times.proofs.ends.ends_of.Given as goal
 
 abbrev pub invariant-loop-i : goal.invariant-loop-i

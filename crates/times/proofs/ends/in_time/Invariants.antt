@@ -1,11 +1,7 @@
 -- `in_time` meets its contract. The loop's invariant: `timely` says whether none of the first j starts passes its latest.
-use native.Mathlib.Omega.{arith}
-use borrow.Author.Rules.{rules}
 use mathlib.Core.Path.{◌≡◌}
-use mathlib.Core.Logic.{⊎_elim}
 use Prim.Native.Nat.{◌≤◌, ◌-◌}
 use Rattle.times.specs.Ends.{none_late}
-use Rattle.times.proofs.EndsLaws.{late_none, late_found, late_more}
 use Rattle.times.proofs.ends.in_time.Given as goal
 
 abbrev pub invariant-loop-j : goal.invariant-loop-j

@@ -2,8 +2,7 @@
 use borrow.Author.Rules.{rules}
 use native.Mathlib.Omega.{arith}
 use mathlib.Core.Path.{◌≡◌}
-use Prim.Native.Nat.{◌≤◌, ◌-◌, max}
-use Rattle.times.specs.Latency.{latency_of, raised_by}
+use Rattle.times.specs.Latency.{raised_by}
 use Rattle.times.proofs.LatencyLaws.{latency_none, latency_more}
 use Rattle.times.proofs.latency.raised_latency.Goals as goal
 

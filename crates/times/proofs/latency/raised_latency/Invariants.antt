@@ -1,10 +1,7 @@
 -- `raised_latency` meets its contract. The loop's invariant: the largest of the latency and the finishes of the first i places.
-use borrow.Author.Rules.{rules}
-use native.Mathlib.Omega.{arith}
 use mathlib.Core.Path.{◌≡◌}
 use Prim.Native.Nat.{◌≤◌, ◌-◌, max}
-use Rattle.times.specs.Latency.{latency_of, raised_by}
-use Rattle.times.proofs.LatencyLaws.{latency_none, latency_more}
+use Rattle.times.specs.Latency.{latency_of}
 use Rattle.times.proofs.latency.raised_latency.Given as goal
 
 abbrev pub invariant-loop-i : goal.invariant-loop-i

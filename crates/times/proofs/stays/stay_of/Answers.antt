@@ -1,9 +1,6 @@
 -- `stay_of` meets its contract. The loop's invariant: the ticks from p on are empty, so the first p decide.
-use Prim.Native.Nat.{◌≤◌}
-use mathlib.Core.Path.{◌≡◌}
 use native.Mathlib.Omega.{arith}
 use borrow.Author.Rules.{rules}
-use Rattle.model.specs.Plan.{stay_in, stay}
 use Rattle.times.proofs.StaysLaws.{stay_start, stay_found, stay_down, stay_nothing}
 use Rattle.times.proofs.stays.stay_of.Goals as goal
 

@@ -1,13 +1,9 @@
 -- `stays_of` meets its contract. The loop's invariant: the first i places have the stays of the first i jobs.
-use native.Mathlib.Omega.{arith}
-use borrow.Author.Rules.{rules}
-use mathlib.Core.Path.{◌≡◌, ◌∙◌}
+use mathlib.Core.Path.{◌≡◌}
 use Prim.Native.Nat.{◌≤◌, ◌-◌}
 use Rattle.model.specs.Batch.{job_of}
 use Rattle.model.specs.Plan.{stay}
 use Rattle.times.specs.Fill.{filled}
-use Rattle.times.proofs.FillLaws.{filled_none, filled_more}
-use Rattle.times.proofs.StaysLaws.{ticks_told, stay_told, stays_read_lem}
 use Rattle.times.proofs.stays.stays_of.Given as goal
 
 abbrev pub invariant-loop-i : goal.invariant-loop-i

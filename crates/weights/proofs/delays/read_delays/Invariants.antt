@@ -1,8 +1,6 @@
 -- `read_delays` meets its contract: the delays of the columns are the batch's, and in each turn those below k have passed and are coded, and those from k on decide.
-use borrow.Author.Rules.{rules}
 use Prim.Native.Nat.{◌-◌}
-use Rattle.weights.proofs.CodeLaws.{told_limited, told_coded}
-use Rattle.weights.proofs.DelaysLaws.{ReadTo, read_none, read_limited, read_more, read_failed, read_all, read_not}
+use Rattle.weights.proofs.DelaysLaws.{ReadTo}
 use Rattle.weights.proofs.delays.read_delays.Given as goal
 
 abbrev pub invariant-loop-k : goal.invariant-loop-k

@@ -1,5 +1,4 @@
 -- `store_turn` meets its contract, on either side.
-use borrow.Author.Rules.{rules}
 use Rattle.weights.proofs.TurnLaws.{even_stored, odd_stored}
 use Rattle.weights.proofs.turn.store_turn.Goals as goal
 
