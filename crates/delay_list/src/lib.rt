@@ -45,7 +45,7 @@ pub fn list_columns(list: &[Delay]) -> Columns
 // Delay k of a list, read out of its columns.
 pub fn delay_at(from: &[u8; 128], to: &[u8; 128], weight: &[i16; 128], k: usize) -> Delay
     requires { k < 128 }
-    ensures { result ≡ delay_at (record { from = from.entry.now; to = to.now; weight = weight.now }) k }
+    ensures { result ≡ delay_at (record { from = from.now; to = to.now; weight = weight.now }) k }
 {
     let w = weight[k];
     Delay {

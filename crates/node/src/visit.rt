@@ -68,7 +68,7 @@ fn reach(
 ) -> bool
     requires ready { Ready sizes (record { from = from.now; to = to.now; code = code.now; stays = stays.now; earliest = earliest.now; latest = latest.now; codes = codes.now; pair = pair.now; held = held.now; end = end.now }) (record { turns = turns.now; tail = tail.now; head = head.now; gap = gap.now; rows = rows.now; tags = tags.now; latencies = latencies.now }) walk }
     requires starts_value { starts.old ≡ earliest.now }
-    ensures { Reaches sizes (record { from = from.entry.now; to = to.now; code = code.now; stays = stays.now; earliest = earliest.now; latest = latest.now; codes = codes.now; pair = pair.now; held = held.now; end = end.now }) (record { turns = turns.entry.now; tail = tail.now; head = head.now; gap = gap.now; rows = rows.now; tags = tags.now; latencies = latencies.now }) walk result starts.new latency.new }
+    ensures { Reaches sizes (record { from = from.now; to = to.now; code = code.now; stays = stays.now; earliest = earliest.now; latest = latest.now; codes = codes.now; pair = pair.now; held = held.now; end = end.now }) (record { turns = turns.now; tail = tail.now; head = head.now; gap = gap.now; rows = rows.now; tags = tags.now; latencies = latencies.now }) walk result starts.new latency.new }
 {
     let depth = walk.depth;
     let best = walk.best;
@@ -165,8 +165,8 @@ pub fn visit(
     tags: &mut [u16; 32],
     latencies: &mut [u16; 32],
 ) -> Walk
-    requires { Ready sizes (record { from = from.now; to = to.now; code = code.now; stays = stays.now; earliest = earliest.now; latest = latest.now; codes = codes.now; pair = pair.now; held = held.now; end = end.now }) (record { turns = turns.now; tail = tail.old; head = head.old; gap = gap.old; rows = rows.old; tags = tags.old; latencies = latencies.old }) walk }
-    ensures { Visited sizes (record { from = from.entry.now; to = to.now; code = code.now; stays = stays.now; earliest = earliest.now; latest = latest.now; codes = codes.now; pair = pair.now; held = held.now; end = end.now }) (record { turns = turns.entry.now; tail = tail.old; head = head.old; gap = gap.old; rows = rows.old; tags = tags.old; latencies = latencies.old }) walk (record { turns = turns.exit.now; tail = tail.new; head = head.new; gap = gap.new; rows = rows.new; tags = tags.new; latencies = latencies.new }) result }
+    requires { Ready sizes (record { from = from.now; to = to.now; code = code.now; stays = stays.now; earliest = earliest.now; latest = latest.now; codes = codes.now; pair = pair.now; held = held.now; end = end.now }) (record { turns = turns.old; tail = tail.old; head = head.old; gap = gap.old; rows = rows.old; tags = tags.old; latencies = latencies.old }) walk }
+    ensures { Visited sizes (record { from = from.now; to = to.now; code = code.now; stays = stays.now; earliest = earliest.now; latest = latest.now; codes = codes.now; pair = pair.now; held = held.now; end = end.now }) (record { turns = turns.old; tail = tail.old; head = head.old; gap = gap.old; rows = rows.old; tags = tags.old; latencies = latencies.old }) walk (record { turns = turns.new; tail = tail.new; head = head.new; gap = gap.new; rows = rows.new; tags = tags.new; latencies = latencies.new }) result }
 {
     let depth = walk.depth;
     let best = walk.best;

@@ -57,8 +57,8 @@ pub fn visit_nodes(
     latencies: &mut [u16; 32],
 ) -> Walked
     requires left_bound { budget.total + budget.left ≤ 100000000 }
-    requires ready { Ready sizes (record { from = from.now; to = to.now; code = code.now; stays = stays.now; earliest = earliest.now; latest = latest.now; codes = codes.now; pair = pair.now; held = held.now; end = end.now }) (record { turns = turns.now; tail = tail.old; head = head.old; gap = gap.old; rows = rows.old; tags = tags.old; latencies = latencies.old }) start }
-    ensures { Walks sizes (record { from = from.entry.now; to = to.now; code = code.now; stays = stays.now; earliest = earliest.now; latest = latest.now; codes = codes.now; pair = pair.now; held = held.now; end = end.now }) (record { turns = turns.entry.now; tail = tail.old; head = head.old; gap = gap.old; rows = rows.old; tags = tags.old; latencies = latencies.old }) start budget turns.exit.now result }
+    requires ready { Ready sizes (record { from = from.now; to = to.now; code = code.now; stays = stays.now; earliest = earliest.now; latest = latest.now; codes = codes.now; pair = pair.now; held = held.now; end = end.now }) (record { turns = turns.old; tail = tail.old; head = head.old; gap = gap.old; rows = rows.old; tags = tags.old; latencies = latencies.old }) start }
+    ensures { Walks sizes (record { from = from.now; to = to.now; code = code.now; stays = stays.now; earliest = earliest.now; latest = latest.now; codes = codes.now; pair = pair.now; held = held.now; end = end.now }) (record { turns = turns.old; tail = tail.old; head = head.old; gap = gap.old; rows = rows.old; tags = tags.old; latencies = latencies.old }) start budget turns.new result }
 {
     let mut walk = start;
     let mut tally = budget;

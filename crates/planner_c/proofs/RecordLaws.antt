@@ -1,6 +1,5 @@
 -- A record loses nothing: the record of a search stands for that search. So calls on records do what the planner's calls do on searches, one after the other.
 -- And which records from elsewhere are as the planner writes them: an answered run that visits no node leaves just these as they are.
-use Rattle.std.specs.Prelude.{if◌then◌else◌}
 use mathlib.Core.Path.{◌≡◌, refl, ap, sym, ◌∙◌, subst}
 use mathlib.Core.Logic.{◌↔◌, ◌≢◌, ◌⊎◌, inl, inr}
 use mathlib.Core.Bool.{Bool, true, false, not}

@@ -1,5 +1,4 @@
 -- Rounds as the code takes them: four rows, one round, k rounds that may end early, and no start rises by more than 1,000 in a round.
-use Rattle.std.specs.Prelude.{if◌then◌else◌}
 use mathlib.Core.Path.{◌≡◌, refl, sym, ◌∙◌, ap}
 use mathlib.Core.Bool.{Bool, true, false}
 use mathlib.Core.List.{List}

@@ -106,7 +106,7 @@ pub fn rounds(
     requires small { Small stays.now 16 }
     requires starts_len { length starts.old ≡ 24 }
     requires latency_value { (latency.old ≡ latency_of stays.now starts.old 24) × ((latency.old < bound) × (bound ≤ 43017)) }
-    ensures { record { starts = starts.exit.now; latency = latency.new; found = result } ≡ timely latest.now (rounds_of table.now stays.now fours bound starts.entry.now latency.old k) }
+    ensures { record { starts = starts.new; latency = latency.new; found = result } ≡ timely latest.now (rounds_of table.now stays.now fours bound starts.old latency.old k) }
 {
     if k == 0 {
         return false;

@@ -42,7 +42,7 @@ pub fn least_starts(
     requires placed_2 { Placed tail.now head.now depth }
     requires small { Small stays.now 16 × (length starts.old ≡ 24) }
     requires latency_value { (latency.old ≡ latency_of stays.now starts.old 24) × ((latency.old < bound) × (bound ≤ 43017)) }
-    ensures { record { starts = starts.exit.now; latency = latency.new; found = result } ≡ least_of n m from.now to.now code.now tail.now head.now gap.now depth stays.now latest.now bound starts.entry.now latency.old }
+    ensures { record { starts = starts.new; latency = latency.new; found = result } ≡ least_of n m from.now to.now code.now tail.now head.now gap.now depth stays.now latest.now bound starts.old latency.old }
 {
     let mut table = [[65535u16; 24]; 24];
     store_delays(&mut table, m, from, to, code);

@@ -1,7 +1,6 @@
 -- `blank_from` goes on by one place a turn.
 use Prim.Native.Nat.{◌-◌}
 use lib.ListN.{length}
-use borrow.Author.Rules.{rules}
 use Rattle.calls.proofs.digits.blank_from.Given as goal
 
 abbrev pub invariant-loop-next : goal.invariant-loop-next

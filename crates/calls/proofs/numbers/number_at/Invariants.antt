@@ -1,7 +1,6 @@
 -- `number_at` takes one digit a turn.
 use Prim.Native.Nat.{◌-◌}
 use lib.ListN.{length}
-use borrow.Author.Rules.{rules}
 use Rattle.calls.proofs.numbers.number_at.Given as goal
 
 abbrev pub invariant-loop-i : goal.invariant-loop-i

@@ -1,6 +1,5 @@
 -- `numbers_of` takes one number a turn, four at most.
 use Prim.Native.Nat.{◌-◌}
-use borrow.Author.Rules.{rules}
 use Rattle.calls.proofs.numbers.numbers_of.Given as goal
 
 abbrev pub invariant-loop-count : goal.invariant-loop-count

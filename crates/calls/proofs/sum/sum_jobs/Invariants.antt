@@ -1,6 +1,5 @@
 -- `sum_jobs` takes one job a turn.
 use Prim.Native.Nat.{◌-◌}
-use borrow.Author.Rules.{rules}
 use Rattle.calls.proofs.sum.sum_jobs.Given as goal
 
 abbrev pub invariant-loop-i : goal.invariant-loop-i

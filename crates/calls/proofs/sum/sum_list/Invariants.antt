@@ -1,7 +1,6 @@
 -- `sum_list` takes one place a turn.
 use Prim.Native.Nat.{◌-◌}
 use lib.ListN.{length}
-use borrow.Author.Rules.{rules}
 use Rattle.calls.proofs.sum.sum_list.Given as goal
 
 abbrev pub invariant-loop-i : goal.invariant-loop-i

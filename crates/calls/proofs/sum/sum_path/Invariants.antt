@@ -1,6 +1,5 @@
 -- `sum_path` takes one turn of the path a round.
 use Prim.Native.Nat.{◌-◌}
-use borrow.Author.Rules.{rules}
 use Rattle.calls.proofs.sum.sum_path.Given as goal
 
 abbrev pub invariant-loop-i : goal.invariant-loop-i

@@ -1,6 +1,5 @@
 -- `sum_windows` takes one turn of the windows a round.
 use Prim.Native.Nat.{◌-◌}
-use borrow.Author.Rules.{rules}
 use Rattle.calls.proofs.sum.sum_windows.Given as goal
 
 abbrev pub invariant-loop-i : goal.invariant-loop-i

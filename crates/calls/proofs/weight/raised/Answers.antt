@@ -1,5 +1,4 @@
 -- `raised` adds 32,768 to a weight of 16 bits.
-use borrow.Author.Rules.{rules}
 use Rattle.calls.proofs.Raised.{held_fits, sum_fits, sum_casts}
 use Rattle.calls.proofs.weight.raised.Goals as goal
 

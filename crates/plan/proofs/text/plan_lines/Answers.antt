@@ -1,5 +1,4 @@
 -- `plan_lines` meets its contract: the plan text fits, so it is written or refused as such.
-use borrow.Author.Rules.{rules}
 use Rattle.plan.proofs.TextLaws.{wrote_text, wrote_nothing}
 use Rattle.plan.proofs.text.plan_lines.Goals as goal
 

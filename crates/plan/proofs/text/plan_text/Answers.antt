@@ -1,5 +1,4 @@
 -- `plan_text` meets its contract: a file opens and is searched, or its refusal is the text.
-use borrow.Author.Rules.{rules}
 use Rattle.plan.proofs.TextLaws.{text_opened, text_closed}
 use Rattle.plan.proofs.text.plan_text.Goals as goal
 

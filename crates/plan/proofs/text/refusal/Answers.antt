@@ -1,5 +1,4 @@
 -- `refusal` puts a line of two bytes.
-use borrow.Author.Rules.{rules}
 use Rattle.plan.proofs.TextLaws.{refusal_put}
 use Rattle.plan.proofs.text.refusal.Goals as goal
 

@@ -1,11 +1,7 @@
 -- `searched` meets its contract. The loop's invariant: what the runs that are left give is what all of them give, and the buffer is as it was.
 use Prim.Native.Nat.{◌≤◌, ◌-◌}
-use mathlib.Core.Path.{◌≡◌, refl, ap}
-use native.Mathlib.Omega.{arith}
-use borrow.Author.Rules.{rules}
-use lib.ListN.{length}
+use mathlib.Core.Path.{◌≡◌}
 use Rattle.model.specs.Program.{planned}
-use Rattle.plan.proofs.TextLaws.{no_runs, goes_on, is_refused, is_ended}
 use Rattle.plan.proofs.text.searched.Given as goal
 
 abbrev pub invariant-loop-runs : goal.invariant-loop-runs

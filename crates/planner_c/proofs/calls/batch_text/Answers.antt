@@ -1,7 +1,6 @@
 -- `planner_c::calls::batch_text` meets its contract: its parts make it up.
 use Rattle.model.specs.Text.{batch_text}
 use Rattle.planner_c.proofs.CallLaws.{record_written}
-use borrow.Author.Rules.{rules}
 use Rattle.planner_c.proofs.calls.batch_text.Goals as goal
 
 pub returns : goal.returns

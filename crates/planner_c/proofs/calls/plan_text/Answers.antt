@@ -1,7 +1,6 @@
 -- `planner_c::calls::plan_text` meets its contract: its parts make it up.
 use Rattle.model.specs.Text.{plan_text}
 use Rattle.planner_c.proofs.CallLaws.{record_written}
-use borrow.Author.Rules.{rules}
 use Rattle.planner_c.proofs.calls.plan_text.Goals as goal
 
 pub returns : goal.returns

@@ -1,6 +1,5 @@
 -- `planner_c::calls::record_after` meets its contract, by the cases of the answer.
 use Rattle.planner_c.specs.Calls.{record_after}
-use borrow.Author.Rules.{rules}
 use Rattle.planner_c.proofs.calls.record_after.Goals as goal
 
 pub returns-in-Spent : goal.returns-in-Spent

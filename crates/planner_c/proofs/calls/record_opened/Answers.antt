@@ -1,6 +1,5 @@
 -- `planner_c::calls::record_opened` meets its contract, by the cases of the answer.
 use Rattle.planner_c.specs.Calls.{record_opened}
-use borrow.Author.Rules.{rules}
 use Rattle.planner_c.proofs.calls.record_opened.Goals as goal
 
 pub returns-in-Accepted : goal.returns-in-Accepted

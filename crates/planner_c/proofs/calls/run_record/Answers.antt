@@ -1,6 +1,5 @@
 -- `planner_c::calls::run_record` meets its contract: its parts make it up.
 use Rattle.planner_c.proofs.CallLaws.{record_ran}
-use borrow.Author.Rules.{rules}
 use Rattle.planner_c.proofs.calls.run_record.Goals as goal
 
 pub returns : goal.returns

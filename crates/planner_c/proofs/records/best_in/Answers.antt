@@ -1,5 +1,4 @@
 -- `planner_c::records::best_in` meets its contract, by the test of the number.
-use Rattle.std.specs.Prelude.{if◌then◌else◌}
 use borrow.Author.Tests.{eq-eqb, ne_eqb}
 use Rattle.planner_c.specs.Records.{best_in}
 use Rattle.planner_c.proofs.records.best_in.Goals as goal

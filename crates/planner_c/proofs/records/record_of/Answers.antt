@@ -1,6 +1,5 @@
 -- `planner_c::records::record_of` meets its contract, field by field.
 use Rattle.planner_c.specs.Records.{record_of}
-use borrow.Author.Rules.{rules}
 use Rattle.planner_c.proofs.records.record_of.Goals as goal
 
 pub returns : goal.returns

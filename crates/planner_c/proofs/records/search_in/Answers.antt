@@ -1,6 +1,5 @@
 -- `planner_c::records::search_in` meets its contract, field by field.
 use Rattle.planner_c.specs.Records.{search_in}
-use borrow.Author.Rules.{rules}
 use Rattle.planner_c.proofs.records.search_in.Goals as goal
 
 pub returns : goal.returns

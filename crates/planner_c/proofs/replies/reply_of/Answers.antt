@@ -1,7 +1,6 @@
 -- `planner_c::replies::reply_of` meets its contract, by the cases of the answer.
 use mathlib.Core.Path.{sym, ap}
 use Rattle.planner_c.specs.Replies.{reply_of}
-use borrow.Author.Rules.{rules}
 use Rattle.planner_c.proofs.replies.reply_of.Goals as goal
 
 pub returns-in-Spent : goal.returns-in-Spent

@@ -2,10 +2,6 @@
 use borrow.Author.Rules.{rules}
 use native.Mathlib.Omega.{arith}
 use mathlib.Core.Path.{◌≡◌}
-use mathlib.Core.List.{[]}
-use Prim.Native.Nat.{◌≤◌, ◌-◌}
-use lib.ListN.{get_or}
-use Rattle.times.specs.Fill.{filled}
 use Rattle.starts.specs.Table.{empty_table}
 use Rattle.times.proofs.FillLaws.{filled_none, filled_more}
 use Rattle.starts.proofs.HeldLaws.{heavy_is}

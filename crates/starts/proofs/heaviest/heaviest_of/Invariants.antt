@@ -1,14 +1,9 @@
 -- `heaviest_of` meets its contract. The loop's invariant: the first k places have the codes that the table has for the first k delays.
-use borrow.Author.Rules.{rules}
-use native.Mathlib.Omega.{arith}
 use mathlib.Core.Path.{◌≡◌}
 use mathlib.Core.List.{[]}
 use Prim.Native.Nat.{◌≤◌, ◌-◌}
 use lib.ListN.{get_or}
 use Rattle.times.specs.Fill.{filled}
-use Rattle.starts.specs.Table.{empty_table}
-use Rattle.times.proofs.FillLaws.{filled_none, filled_more}
-use Rattle.starts.proofs.HeldLaws.{heavy_is}
 use Rattle.starts.proofs.heaviest.heaviest_of.Given as goal
 
 abbrev pub invariant-loop-k : goal.invariant-loop-k

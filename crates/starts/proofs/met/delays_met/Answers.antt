@@ -1,5 +1,4 @@
 -- `delays_met` meets its contract: the delays of a sound batch pass, so what is read of them is handed on, with its ends.
-use borrow.Author.Rules.{rules}
 use Rattle.weights.proofs.SoundLaws.{sound_read}
 use Rattle.starts.proofs.met.delays_met.Goals as goal
 

@@ -1,5 +1,4 @@
 -- `put` meets its contract: the larger of the two is stored, or there already.
-use borrow.Author.Rules.{rules}
 use Rattle.starts.proofs.TableLaws.{put_stored, put_kept}
 use Rattle.starts.proofs.table.put.Goals as goal
 

@@ -2,8 +2,6 @@
 use borrow.Author.Rules.{rules}
 use native.Mathlib.Omega.{arith}
 use mathlib.Core.Path.{◌≡◌, refl}
-use Prim.Native.Nat.{◌≤◌, ◌-◌}
-use Rattle.starts.specs.Table.{with_put}
 use Rattle.starts.proofs.TableLaws.{put_none, put_more}
 use Rattle.starts.proofs.table.put_turns.Goals as goal
 

@@ -1,10 +1,7 @@
 -- `put_turns` meets its contract. The loop's invariant: the first k turns are in the table.
-use borrow.Author.Rules.{rules}
-use native.Mathlib.Omega.{arith}
-use mathlib.Core.Path.{◌≡◌, refl}
+use mathlib.Core.Path.{◌≡◌}
 use Prim.Native.Nat.{◌≤◌, ◌-◌}
 use Rattle.starts.specs.Table.{with_put}
-use Rattle.starts.proofs.TableLaws.{put_none, put_more}
 use Rattle.starts.proofs.table.put_turns.Given as goal
 
 abbrev pub invariant-loop-k : goal.invariant-loop-k

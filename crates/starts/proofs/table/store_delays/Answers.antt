@@ -2,8 +2,6 @@
 use borrow.Author.Rules.{rules}
 use native.Mathlib.Omega.{arith}
 use mathlib.Core.Path.{◌≡◌, refl}
-use Prim.Native.Nat.{◌≤◌, ◌-◌}
-use Rattle.starts.specs.Table.{with_stored}
 use Rattle.starts.proofs.TableLaws.{stored_none, stored_more}
 use Rattle.starts.proofs.table.store_delays.Goals as goal
 

@@ -1,10 +1,7 @@
 -- `store_delays` meets its contract. The loop's invariant: the first k delays are in the table.
-use borrow.Author.Rules.{rules}
-use native.Mathlib.Omega.{arith}
-use mathlib.Core.Path.{◌≡◌, refl}
+use mathlib.Core.Path.{◌≡◌}
 use Prim.Native.Nat.{◌≤◌, ◌-◌}
 use Rattle.starts.specs.Table.{with_stored}
-use Rattle.starts.proofs.TableLaws.{stored_none, stored_more}
 use Rattle.starts.proofs.table.store_delays.Given as goal
 
 abbrev pub invariant-loop-k : goal.invariant-loop-k
