@@ -1,4 +1,4 @@
--- The lines of the plan text, each by its name. Model's `planLines` is made of them.
+-- The lines of the plan text, each by its name. Model's `plan_lines` is made of them.
 use Rattle.std.specs.Prelude.{ℕ, List, ◌∷◌, ◌++◌}
 use Rattle.model.specs.Line.{line, two, four}
 

@@ -51,7 +51,7 @@ pub record Solution (earliest latest : List ℕ) (qs : List Delay) (us : List �
   pub above : (j : ℕ) → j < length earliest → get_or earliest j 0 ≤ start us j
   pub below : (j : ℕ) → j < length earliest → start us j ≤ get_or latest j 0
 
--- one that has no start above another's; model/proofs/StartsLaws: least-iff and least_exists
+-- one that has no start above another's; model/proofs/StartsLaws: least_iff and least_exists
 pub record Least (earliest latest : List ℕ) (qs : List Delay) (ts : List ℕ) : Type 0 where
   pub long : length ts ≡ length earliest
   pub solution : Solution earliest latest qs ts
