@@ -165,7 +165,7 @@ module _ (b : Batch) (passes : Passes b) (n : ℕ) (end : End b (fits b passes) 
       let all : total ≡ n = omega arith in
       let v = (h above).0 in
       let placed : take b.n (take m starts ++ drop m list) ≡ take b.n starts =
-      ap (λ (k : ℕ). take b.n (take k starts ++ drop k list)) q ∙ take_at (take b.n starts) (drop b.n list) b.n v.0.starts in
+      ap (λ (k : ℕ). take b.n (take k starts ++ drop k list)) q ∙ take_at (take b.n starts) (drop b.n list) b.n (omega (arith, v.0.starts)) in
       record {
         verdict = plan l total;
         answered = refl;

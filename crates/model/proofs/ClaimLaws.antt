@@ -19,6 +19,7 @@ use Rattle.model.proofs.LineLaws.{IsByte, Bytes, digit_of_lem}
 use Rattle.model.proofs.ReadLaws.{Framing, text, one_back, one_forth, all_back, all_forth}
 use Rattle.model.proofs.FrameLaws.{two_back, frame_iff, at_each, at_byte}
 use Rattle.model.proofs.FileLaws.{no_more}
+use Rattle.model.proofs.RightLaws.{LineOk}
 
 -- ---- the B0 line
 
@@ -67,10 +68,6 @@ head_framing = record { back = back; forth = forth }
         )
 
 -- ---- a B1 line
-
--- job and start in their bytes
-abbrev LineOk : ℕ × ℕ → Type 0
-LineOk q = (q.0 < 256) × (q.1 < 65536)
 
 -- what follows B1
 abbrev line_body : ℕ × ℕ → List ℕ
@@ -133,7 +130,7 @@ lines_none = refl
 -- where something is left that is no B1 line, all is refused
 pub lines_stop : (c : ℕ) (cs : List ℕ) (k : ℕ) → read_one claim_line (c ∷ cs) ≡ refuse k → (j : ℕ) × (read_lines (c ∷ cs) ≡ refuse j)
 unfolding read_lines read_all is_empty require ◌>>=◌
-lines_stop c cs k e = go (ends (c ∷ cs))
+lines_stop c cs k e = go _
   where
     go : (n : ℕ) → (j : ℕ) × ((read_all claim_line n (c ∷ cs) >>= λ p. require 17 (is_empty p.1) >>= λ u. accept p.0) ≡ refuse j)
     go zero = (17, refl)

@@ -92,7 +92,7 @@ module _ (job : Job) where
 -- no job stays longer than its ticks
 pub stay_short : (b : Batch) (i : ℕ) → stay (job_of b i) ≤ ticks b i
 unfolding stay ticks
-stay_short b i = (last (job_of b i) (job_of b i).ticks).most
+stay_short b i = omega (arith, (last (job_of b i) (job_of b i).ticks).most)
 
 -- ---- the latency
 

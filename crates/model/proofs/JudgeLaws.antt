@@ -42,6 +42,7 @@ use Rattle.model.proofs.ClashLaws.{Unmet, apart_unmet, unmet_apart}
 use Rattle.model.proofs.NodeLaws.{unmet_all, met_first}
 use Rattle.model.proofs.LimitLaws.{between_iff, le_z_iff}
 use Rattle.model.proofs.OpenLaws.{open_format, text_plans, best_plans}
+use Rattle.model.proofs.RightLaws.{right_valid}
 use Rattle.model.proofs.ClaimLaws.{claim_iff}
 
 -- ---- 18
@@ -49,7 +50,7 @@ use Rattle.model.proofs.ClaimLaws.{claim_iff}
 pub jobs_iff : (b : Batch) (c : Claim) → (jobs_right b c ≡ true) ↔ RightJobs b c
 unfolding jobs_right RightJobs
 jobs_iff b c = (
-  λ e. let r = both (eqb c.n b.n) _ e in (eqb-true c.n b.n r.0, same_eq (jobs_in c) (count 0 b.n) r.1),
+  λ e. let r = both (eqb c.n b.n) _ e in (omega (arith, eqb-true c.n b.n r.0), same_eq (jobs_in c) (count 0 b.n) r.1),
   λ h. and (eq-eqb c.n b.n h.0) (ap (λ (l : List ℕ). same l (count 0 b.n)) h.1 ∙ same_refl (count 0 b.n)),
 )
 
@@ -201,17 +202,17 @@ module _ (file : List ℕ) (b : Batch) (f : BatchFile file b) (text : List ℕ) 
   unfolding RightJobs RightPlan jobs_in starts_in
   right_claim r =
       let ts = r.starts in
-      let back = starts_back b ts r.valid.starts in (
+      let back = starts_back b ts (right_valid b text r).starts in (
         record { n = b.n; latency = latency b ts; total = r.total; lines = lines_of b.n ts },
         record {
           is = r.is ∙ plan_claim b.n (latency b ts) ts r.total;
           n_fits = omega (arith, f.within.jobs.1);
           latency_fits = r.latency_fits;
-          total_fits = r.total_fits;
+          total_fits = omega (arith, r.total_fits);
           lines_fit = each_item _ _ b.n (λ i h. (omega (arith, f.within.jobs.1), omega (arith, finish_latency b ts i h, r.latency_fits)));
         },
         (refl, map_map (λ q. q.0) (λ i. (i, start ts i)) (λ i. i) (λ i. refl) (count 0 b.n) ∙ map-id (count 0 b.n)),
-        (subst (Valid b) (sym back) r.valid, ap (latency b) back),
+        (subst (Valid b) (sym back) (right_valid b text r), ap (latency b) back),
       )
 
   claim_right : (c : Claim) → Claims text c → RightJobs b c → RightPlan b c → RightText b text

@@ -23,6 +23,7 @@ pub mod OrderLaws
 pub mod ClashLaws
 pub mod RestedLaws
 pub mod BackLaws
+pub mod RightLaws
 pub mod NodeLaws
 pub mod GoodLaws
 pub mod BoundLaws

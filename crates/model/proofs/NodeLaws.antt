@@ -12,7 +12,7 @@ use native.Mathlib.Omega.{arith}
 use lib.ListN.{length, get_or}
 use lib.IntN.{ℤ, pos, ◌+ℤ◌, ◌-ℤ◌}
 use lib.Signed.{le_z}
-use borrow.Author.Tests.{leb-true, leb-false}
+use borrow.Author.Tests.{leb-false}
 use Rattle.model.specs.declared.Delay.{Delay}
 use Rattle.model.specs.declared.Batch.{Batch}
 use Rattle.model.specs.declared.Turn.{Turn}
@@ -33,6 +33,7 @@ use Rattle.model.proofs.SideLaws.{side0_apart, side1_apart, sides}
 use Rattle.model.proofs.ClashLaws.{Unmet, apart_unmet, unmet_apart, Listed, clash_listed}
 use Rattle.model.proofs.DistanceLaws.{eq_z_eq, eq_z_refl}
 use Rattle.model.proofs.StartsLaws.{Inside, least_length, least_solution, least_below, least_found, ends_length, Solved, solved, solved_ends, inside_ends}
+use Rattle.model.proofs.RightLaws.{pruned_from}
 use Rattle.model.proofs.BackLaws.{BackTo, back_is, numbers, Present, Pending, Open, pending_done, pending_open, open_append, present_all}
 
 -- what the limits say of a batch
@@ -144,7 +145,7 @@ module _ (b : Batch) (fits : Fits b) where
   unfolding KeepsDelays Unmet inequalities
   valid_found ts names ss e f =
       record {
-        starts = at_length ts ss e;
+        starts = omega (arith, at_length ts ss e);
         delays = λ q m. (at_solved ts names ss e).keeps q (Memᴰ.append_left (map (turned (clashes b)) ts) m);
         ends = solved_ends b (inequalities (clashes b) b ts) ss (at_solved ts names ss e);
         stations = unmet_apart b ss fits.short fits.rests (unmet_all (clashes b) ss 0 f);
@@ -189,7 +190,7 @@ module _ (b : Batch) (fits : Fits b) where
   pruned_le : (best : Best) (l m : ℕ) → prunes best l ≡ true → l ≤ m → BestLe best m
   unfolding prunes
   pruned_le Nothing l m e h = apart e
-  pruned_le (Latency k) l m e h = omega (arith, leb-true k l e)
+  pruned_le (Latency k) l m e h = omega (arith, pruned_from k l e)
 
   unpruned_le : (best : Best) (l m : ℕ) → prunes best l ≡ false → BestLe best m → l ≤ m
   unfolding prunes
