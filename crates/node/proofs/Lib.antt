@@ -3,6 +3,7 @@ pub mod BackLaws
 pub mod PathLaws
 pub mod StepsLaws
 pub mod NodeLaws
+pub mod BeginLaws
 pub mod RowsLaws
 pub mod WorksLaws
 pub mod ReachLaws

@@ -35,14 +35,15 @@ use Rattle.rounds.specs.Rounds.{Reached, rounds_of, timely}
 use Rattle.starts.specs.Least.{least_of}
 use Rattle.starts.proofs.PlaceLaws.{Tabled}
 use Rattle.starts.proofs.FromLaws.{Came}
-use Rattle.starts.proofs.Law.{path_table, path_tabled, came, found_below, found_least, lost_least}
+use Rattle.starts.proofs.PathTable.{path_table}
+use Rattle.starts.proofs.Law.{path_tabled, came, found_below, found_least, lost_least}
 use Rattle.node.specs.declared.visit.Walk.{Walk}
 use Rattle.node.specs.declared.visit.Sizes.{Sizes}
 use Rattle.node.specs.Walk.{turns_in, bound_of, incumbent, place_at}
 use Rattle.node.specs.Rows.{begun, Base}
 use Rattle.node.specs.Kit.{Kit, Trail, Works, Least}
 use Rattle.node.proofs.PathLaws.{turns_length}
-use Rattle.node.proofs.RowsLaws.{Begins, begins}
+use Rattle.node.proofs.BeginLaws.{Begins, begins}
 use Rattle.node.proofs.WorksLaws.{passes, good_turns, counts, bound_small, held, turn_stored, turns_held}
 
 -- a latency below best's bound is not pruned

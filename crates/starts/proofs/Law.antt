@@ -31,9 +31,9 @@ use Rattle.times.proofs.LatencyLaws.{latency_padded}
 use Rattle.weights.specs.Code.{place_code}
 use Rattle.weights.specs.Holds.{Holds}
 use Rattle.rounds.specs.Rounds.{Reached, rounds_of, timely}
-use Rattle.starts.specs.Table.{with_put, with_stored, empty_table, heaviest_of}
 use Rattle.starts.proofs.PlaceLaws.{code_is, Tabled}
 use Rattle.starts.proofs.HeldLaws.{held_tabled, heavy_tabled}
+use Rattle.starts.proofs.PathTable.{path_table}
 use Rattle.starts.proofs.FromLaws.{Changed, Ending, settled, stopped, used, Came, rounds_came}
 
 -- ---- the table
@@ -59,10 +59,6 @@ table_is n t qs h =
         h.place i j p (omega (arith, h.wide i p)) ∙ code_is n qs h.fits i j
         ∙ sym (get_d_same (map place_code (line i)) j 0 (place_code none) (omega (arith, h.wide i p, long i)) ∙ get_or-map place_code (line i) j none ∙ ap place_code (listed_at (λ j. entry qs i j) none 24 j (omega (arith, h.wide i p)))))
         ∙ sym (get_or-map (map place_code) (table qs) i [] ∙ ap (map place_code) (listed_at line [] 24 i p))
-
--- the table of a path: the delays, stored with the smallest codes of their pairs, and then the turns
-abbrev pub path_table : ℕ → List ℕ → List ℕ → List ℕ → List ℕ → List ℕ → List ℕ → ℕ → List (List ℕ)
-path_table m froms tos codes tails heads gaps depth = with_put tails heads gaps (with_stored froms tos (heaviest_of m froms tos codes) empty_table m) depth
 
 -- it holds the path's inequalities
 pub path_tabled : (b : Batch) (cs : List Clash) (ts : List Turn) (m depth : ℕ) (froms tos codes tails heads gaps : List ℕ) → b.n ≤ 24 → m ≤ 128 → m ≡ length (delays_of b) → depth ≡ length ts

@@ -5,5 +5,6 @@ pub mod HeldLaws
 pub mod RaisedLaws
 pub mod FromLaws
 pub mod LeastLaws
+pub mod PathTable
 pub mod Law
 pub mod MetLaws
