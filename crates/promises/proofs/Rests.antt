@@ -3,7 +3,7 @@
 use Rattle.std.specs.Prelude.{if◌then◌else◌}
 use Prim.Native.Nat.{ℕ, ◌+◌, ◌≤◌, ◌<◌}
 use mathlib.Core.Path.{◌≡◌, refl, ap, sym, ◌∙◌, subst}
-use mathlib.Core.Logic.{◌⊎◌, inl, inr, ⊎_elim, ◌↔◌, ◌≢◌}
+use mathlib.Core.Logic.{inl, inr, ⊎_elim, ◌↔◌, ◌≢◌}
 use mathlib.Core.Bool.{true, false}
 use mathlib.Core.Option.{some}
 use mathlib.Core.List.{List, map, Memᴰ}
@@ -20,7 +20,7 @@ use Rattle.model.specs.declared.Opened.{Opened}
 use Rattle.model.specs.declared.Ran.{Ran}
 use Rattle.model.specs.Common.{count, refuse, accept}
 use Rattle.model.specs.Batch.{rest_of}
-use Rattle.model.specs.Plan.{start, Holds, too_close, Apart, KeepsDelays, KeepsEnds, KeepsStations, Valid}
+use Rattle.model.specs.Plan.{start, Holds, Apart, KeepsDelays, KeepsEnds, KeepsStations, Valid}
 use Rattle.model.specs.Clash.{clashing, distances, clashes}
 use Rattle.model.specs.Search.{fresh_search, nodes_on}
 use Rattle.model.specs.Format.{BatchFile}
@@ -32,10 +32,9 @@ use Rattle.model.specs.Answers.{plan, run_told, open_told, best_told}
 use Rattle.model.specs.Calls.{Call, call, after}
 use Rattle.model.specs.Demands.{PlanWith}
 use Rattle.model.specs.All.{definitions}
-use Rattle.model.proofs.BoolLaws.{T_true, true_T}
 use Rattle.model.proofs.ListLaws.{map_some, count_some}
 use Rattle.model.proofs.SeqLaws.{listed_at}
-use Rattle.model.proofs.DistanceLaws.{between_some, close_le, le_close, lifted_near}
+use Rattle.model.proofs.DistanceLaws.{between_some, lifted_near}
 use Rattle.model.proofs.ClashLaws.{apart_iff, clash_listed, clashing_listed, distance_listed}
 use Rattle.model.proofs.RestedLaws.{stations_first, clashing_first, clashes_first}
 use Rattle.model.proofs.SoundLaws.{record_passes, passes_fit}
@@ -46,24 +45,9 @@ use Rattle.promises.specs.Rests.{Cools, AllCool, Small, ends_held, farthest, Q5}
 use Rattle.promises.proofs.Demands.{called_after, demands}
 use Rattle.promises.proofs.Pins.{called_there}
 use Rattle.promises.proofs.Windows.{told}
+use Rattle.promises.proofs.Cooling.{cools_apart}
 
 -- ---- two jobs
-
--- ticks that are not too close are more than the rest apart
-far : (r x y : ℕ) → (too_close r (sub_ℕ x y) ≡ true → ⊥) → (x + r < y) ⊎ (y + r < x)
-far r x y h = go (dec_lt (x + r) y) (dec_lt (y + r) x)
-  where
-    go : Dec (x + r < y) → Dec (y + r < x) → (x + r < y) ⊎ (y + r < x)
-    go (yes g) k = inl g
-    go (no g) (yes k) = inr k
-    go (no g) (no k) = absurd (h (le_close r x y (omega arith) (omega arith)))
-
-cools_apart : (b : Batch) (ts : List ℕ) (i j : ℕ) → Cools b ts i j ↔ Apart b ts i j
-unfolding Apart
-cools_apart b ts i j = (
-  λ c s x y h p q t. let r = close_le (rest_of b s) x y (T_true _ t) in ⊎_elim (λ (z : x + rest_of b s < y). omega (arith, r.1)) (λ (z : y + rest_of b s < x). omega (arith, r.0)) (c.each s x y h p q),
-  λ a. record { each = λ s x y h p q. far (rest_of b s) x y (λ t. a s x y h p q (true_T t)) },
-)
 
 distance_law : (b : Batch) (ts : List ℕ) (i j : ℕ) (d : ℤ) → sub_ℕ (start ts j) (start ts i) ≡ d → Cools b ts i j ↔ (clashing b i j d ≡ false)
 distance_law b ts i j d e =

@@ -7,18 +7,15 @@ use mathlib.Core.Bool.{true, false}
 use mathlib.Core.Option.{some}
 use mathlib.Core.List.{List}
 use native.Mathlib.Omega.{arith}
-use lib.ListN.{length, get_or, replicate, take}
-use lib.Seq.{get_or-take}
+use lib.ListN.{length, replicate, take}
 use Rattle.model.specs.declared.Batch.{Batch}
 use Rattle.model.specs.declared.Search.{Search}
 use Rattle.model.specs.declared.Opened.{Opened}
-use Rattle.model.specs.declared.Ran.{Ran}
 use Rattle.model.specs.Common.{Outcome, refuse, accept}
 use Rattle.model.specs.Limits.{most_jobs}
 use Rattle.model.specs.Batch.{blank_window, lined, earliest, latest}
 use Rattle.model.specs.Plan.{start, KeepsDelays, KeepsEnds, latency}
 use Rattle.model.specs.Clash.{clashes}
-use Rattle.model.specs.Search.{fresh_search}
 use Rattle.model.specs.Format.{BatchFile}
 use Rattle.model.specs.Open.{read_file, open_file, opened_as, opened}
 use Rattle.model.specs.First.{Valid01, Shortest01, nodes01, open_file01, Begins}
@@ -26,15 +23,15 @@ use Rattle.model.specs.Sound.{sound}
 use Rattle.model.specs.Run.{run_refusal, ran}
 use Rattle.model.specs.Answers.{plan, no_plan, run_told, open_told, best_told}
 use Rattle.model.specs.Calls.{Call, call, after}
-use Rattle.model.specs.Demands.{PlanWith}
 use Rattle.model.proofs.OutcomeLaws.{refuse_as, refused}
-use Rattle.model.proofs.OpenLaws.{open_format, refused_10, best_plans, best_limits, after_batch, yields}
-use Rattle.model.proofs.FirstLaws.{ends01, open_first, open_second, open_3, refused_8, refused_20, search01, plan01, no_plan01}
+use Rattle.model.proofs.OpenLaws.{refused_10}
+use Rattle.model.proofs.FirstLaws.{open_first, open_second, open_3, refused_8, refused_20, search01}
 use Rattle.promises.specs.Demands.{Called}
-use Rattle.promises.specs.Windows.{First, InEnds, Numbers, Q4}
-use Rattle.promises.proofs.Demands.{called_after, demands}
+use Rattle.promises.specs.Windows.{First, Numbers, Q4}
+use Rattle.promises.proofs.Demands.{demands}
 use Rattle.promises.proofs.Pins.{called_there}
 use Rattle.promises.proofs.Finish.{form_iff}
+use Rattle.promises.proofs.WindowRuns.{first_at, starts_at_lem}
 
 -- what opening refuses with is what it tells
 told_refused : (o : Outcome Batch) (k : ℕ) → (open_told (opened_as o).answer ≡ refuse k) ↔ (o ≡ refuse k)
@@ -54,44 +51,6 @@ module _ (file : List ℕ) where
         eight = λ e. refused_8 file ((told 8).0 e);
         twenty = λ e. refused_20 file ((told 20).0 e);
       }
-
-  -- after a list of runs
-  module _ (b : Batch) (f : BatchFile file b) (cs : List Call) (s : Search) (h : Called (opened file).search cs s) where
-    at : s ≡ after (fresh_search b) cs
-    at = called_after h ∙ ap (λ (x : Search). after x cs) (yields file b f)
-
-    batch_at : s.batch ≡ b
-    batch_at = ap (λ (x : Search). x.batch) at ∙ after_batch file b f cs
-
-    first_at : b.edition ≡ 1 → First b s
-    unfolding call
-    first_at one =
-        let (windows, ends) = ends01 file b ((open_format file b).1 f) one in
-        record {
-          windows = ap (λ (c : Batch). c.windows) batch_at ∙ windows;
-          ends = λ i. rw batch_at (ends i);
-          plans = λ c r list' m l t e.
-              let z = m ∙ ap (λ (x : Search). ran x c.budget c.starts) at in
-              subst (λ (x : Ran × List ℕ). run_told x.0.answer ≡ accept (plan l t) → Shortest01 b (take b.n x.1) × (latency b (take b.n x.1) ≡ l)) (sym z) (plan01 file b f one cs c l t) e;
-          none = λ c r list' m t e.
-              let z = m ∙ ap (λ (x : Search). ran x c.budget c.starts) at in
-              no_plan01 file b f one cs c t (ap (λ (x : Ran × List ℕ). run_told x.0.answer) (sym z) ∙ e);
-        }
-
-    starts_at_lem : (l : ℕ) → best_told s.best ≡ some l → InEnds b s.starts l
-    unfolding PlanWith KeepsEnds start
-    starts_at_lem l e =
-        let told = ap (λ (x : Search). best_told x.best) (sym at) ∙ e in
-        let starts = (after (fresh_search b) cs).starts in
-        let plan = best_plans file b f cs l told in
-        let limits = best_limits file b f cs l told in
-        let same : (i : ℕ) → i < b.n → get_or (take b.n starts) i 0 ≡ get_or starts i 0 = λ i g. rw get_or-take in
-        subst (λ (x : Search). InEnds b x.starts l) (sym at)
-        (record {
-          ends = λ i g. let r = plan.0.ends i g in (omega (arith, r.0, same i g), omega (arith, r.1, same i g));
-          most = limits.0;
-          latency_most = limits.1;
-        })
 
 pub q4 : Q4
 unfolding opened
