@@ -49,6 +49,7 @@ pub fn open_record(file: &[u8], state: Record) -> Started
 }
 
 // The record after a run: the same one if the run was refused.
+#[inline(never)]
 fn record_after(state: Record, answer: Answer, search: Search) -> Record
     ensures { result ≡ record_after state answer search }
 {

@@ -55,6 +55,7 @@ fn flag_of(yes: bool) -> u8
 }
 
 // The search that a record stands for.
+#[inline(never)]
 pub fn search_in(state: Record) -> Search
     ensures { result ≡ search_in state }
 {

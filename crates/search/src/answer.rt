@@ -17,6 +17,7 @@ fn give_starts(starts: [u16; 24], n: usize, list: &mut [u16])
 }
 
 // Spent when the search has not ended, a plan when it has ended with a best, no plan when it has ended without.
+#[inline(never)]
 pub fn answered(search: Search, list: &mut [u16]) -> Answer
     requires { (search.batch.n ≤ 24) × (search.batch.n ≤ length list.old) }
     ensures { (result ≡ answer_of search.ended search.best search.total) × (list.new ≡ starts_after result search.batch.n search.starts list.old) }
