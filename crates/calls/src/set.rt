@@ -2,7 +2,7 @@
 // of delay A, 7 clash and 8 side of the path's place A, 9 best, 10 place A of best's starts, 11 total, 12 ended, 13 edition, 14 whether job A has a line,
 // 15 its earliest and 16 its latest start, 17 the rest of station A.
 use crate::weight::weight_of;
-use model::{Batch, Best, Delay, Job, Search, Turn, Window};
+use model::{Batch, Delay, Job, Search, Turn, Window};
 
 // How many numbers there are up to the largest of a line.
 const ANY: u64 = 4294967296;
@@ -188,15 +188,15 @@ fn set_starts(starts: [u16; 24], a: usize, value: u64) -> [u16; 24] {
 }
 
 // None for 65,536, else that latency.
-fn best_of(value: u64) -> Best {
+fn best_of(value: u64) -> Option<u16> {
     if value == 65536 {
-        Best::Nothing
+        None
     } else {
-        Best::Latency((value % 65536) as u16)
+        Some((value % 65536) as u16)
     }
 }
 
-fn with_best(search: Search, best: Best) -> Search {
+fn with_best(search: Search, best: Option<u16>) -> Search {
     let batch = search.batch;
     let path = search.path;
     let starts = search.starts;

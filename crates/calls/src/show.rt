@@ -2,7 +2,7 @@
 use crate::sum::sum_of;
 use crate::text::{put, put_colon, put_list, put_number};
 use crate::widths::{of_byte, of_flag, of_pair, of_word};
-use model::{Best, Search, Turn};
+use model::{Search, Turn};
 
 pub fn show(search: Search, out: &mut [u8]) -> usize {
     let path = search.path;
@@ -29,13 +29,13 @@ fn put_head(out: &mut [u8], search: Search) -> usize {
 }
 
 // The latency, or `-` for none.
-fn put_best(out: &mut [u8], at: usize, best: Best) -> usize {
+fn put_best(out: &mut [u8], at: usize, best: Option<u16>) -> usize {
     match best {
-        Best::Nothing => {
+        None => {
             let next = put(out, at, b' ');
             put(out, next, b'-')
         }
-        Best::Latency(latency) => put_number(out, at, b' ', of_pair(latency)),
+        Some(latency) => put_number(out, at, b' ', of_pair(latency)),
     }
 }
 

@@ -2,7 +2,7 @@
 use crate::text::place_of;
 use crate::weight::raised;
 use crate::widths::{of_byte, of_flag, of_pair, of_word};
-use model::{Batch, Best, Delay, Job, Search, Turn, Window};
+use model::{Batch, Delay, Job, Search, Turn, Window};
 
 // The sum over a whole record.
 pub fn sum_of(search: Search) -> u64 {
@@ -109,10 +109,10 @@ fn sum_list(sum: u64, list: &[u16]) -> u64 {
 }
 
 // 0 for none, else one more than the latency.
-fn best_number(best: Best) -> u64 {
+fn best_number(best: Option<u16>) -> u64 {
     match best {
-        Best::Nothing => 0,
-        Best::Latency(latency) => one_more(latency),
+        None => 0,
+        Some(latency) => one_more(latency),
     }
 }
 

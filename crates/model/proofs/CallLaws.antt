@@ -13,8 +13,8 @@ use lib.Seq.{take_at}
 use lib.Dec.{leb, ltb}
 use borrow.Author.Tests.{le-leb, lt-leb, ltb-true, ltb-false, lt-ltb}
 use Rattle.model.specs.declared.Batch.{Batch}
-use Rattle.model.specs.declared.Best.{Best}
-use Rattle.model.specs.declared.Best.TheVariants.{Nothing, Latency}
+use Rattle.model.specs.Best.{Best}
+use Rattle.std.specs.Prelude.{None, Some}
 use Rattle.model.specs.declared.Search.{Search}
 use Rattle.model.specs.declared.Ran.{Ran}
 use Rattle.model.specs.Common.{Outcome, refuse, accept, ◌>>=◌, require}
@@ -148,7 +148,7 @@ module _ (b : Batch) (passes : Passes b) (n : ℕ) (end : End b (fits b passes) 
         is_none = λ g f. absurd (omega arith);
         shortest = λ l k f. let z : ◌≡◌ {A = ℕ} 0 1 = cc in absurd (omega arith);
       }
-  answer_by s true Nothing total m starts list e t q h =
+  answer_by s true None total m starts list e t q h =
       let above : n ≤ s = upper s e in
       let all : total ≡ n = omega arith in
       record {
@@ -160,7 +160,7 @@ module _ (b : Batch) (passes : Passes b) (n : ℕ) (end : End b (fits b passes) 
         is_none = λ g f. ap no_plan all;
         shortest = λ l k f. let z : ◌≡◌ {A = ℕ} 0 1 = cc in absurd (omega arith);
       }
-  answer_by s true (Latency l) total m starts list e t q h =
+  answer_by s true (Some l) total m starts list e t q h =
       let above : n ≤ s = upper s e in
       let all : total ≡ n = omega arith in
       let v = (h above).0 in

@@ -13,8 +13,8 @@ use lib.ListN.{length, take, replicate, length-map, length-append}
 use lib.Seq.{take_at}
 use Rattle.model.specs.declared.Batch.{Batch}
 use Rattle.model.specs.declared.Turn.{Turn}
-use Rattle.model.specs.declared.Best.{Best}
-use Rattle.model.specs.declared.Best.TheVariants.{Nothing, Latency}
+use Rattle.model.specs.Best.{Best}
+use Rattle.std.specs.Prelude.{None, Some}
 use Rattle.model.specs.Common.{pad}
 use Rattle.model.specs.Limits.{most_jobs}
 use Rattle.model.specs.Plan.{Valid, latency}
@@ -150,8 +150,8 @@ abbrev pub ValidBest : Batch → Incumbent → Type 0
 ValidBest b i = Told i.best
   where
     Told : Best → Type 0
-    Told Nothing = Unit {0}
-    Told (Latency l) = Valid b (take b.n i.starts) × (latency b (take b.n i.starts) ≡ l)
+    Told None = Unit {0}
+    Told (Some l) = Valid b (take b.n i.starts) × (latency b (take b.n i.starts) ≡ l)
 
 pub valid_new : (b : Batch) (fits : Fits b) (ts : List Turn) → Named b ts → (ss : List ℕ) → starts_at (clashes b) b ts ≡ some ss → first_met (clashes b) ss 0 ≡ none → ValidBest b (become_best b ss)
 unfolding become_best pad

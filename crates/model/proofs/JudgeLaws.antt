@@ -12,8 +12,8 @@ use lib.Seq.{ext_get_or, get_or-take}
 use lib.Dec.{leb, eqb}
 use borrow.Author.Tests.{leb-true, eqb-true, eq-eqb}
 use Rattle.model.specs.declared.Batch.{Batch}
-use Rattle.model.specs.declared.Best.{Best}
-use Rattle.model.specs.declared.Best.TheVariants.{Nothing, Latency}
+use Rattle.model.specs.Best.{Best}
+use Rattle.std.specs.Prelude.{None, Some}
 use Rattle.model.specs.declared.Search.{Search}
 use Rattle.model.specs.Common.{between, count, all, joined, is_some, Outcome, refuse, accept, ◌>>=◌, require}
 use Rattle.model.specs.Limits.{most_latency, most_total}
@@ -176,7 +176,7 @@ joined_map f g [] = refl
 joined_map f g (x ∷ xs) = rw (joined_map f g xs)
 
 -- the plan text is that claim's
-plan_claim : (n l : ℕ) (ts : List ℕ) (total : ℕ) → plan_lines (Latency l) n ts total ≡ claim_text (record { n = n; latency = l; total = total; lines = lines_of n ts })
+plan_claim : (n l : ℕ) (ts : List ℕ) (total : ℕ) → plan_lines (Some l) n ts total ≡ claim_text (record { n = n; latency = l; total = total; lines = lines_of n ts })
 unfolding plan_lines claim_text
 plan_claim n l ts total = ap (λ (rest : List ℕ). line (0xB0 ∷ 0x01 ∷ n ∷ (two l ++ four total)) ++ rest) (sym (joined_map _ (λ i. (i, start ts i)) (count 0 n)))
 
@@ -253,20 +253,20 @@ judge_right file text = (there, back)
 -- ---- the plan text of a search opened here
 
 -- only the first n places of a list of starts stand in its plan text
-plan_take : (n l : ℕ) (ts : List ℕ) (total : ℕ) → plan_lines (Latency l) n ts total ≡ plan_lines (Latency l) n (take n ts) total
+plan_take : (n l : ℕ) (ts : List ℕ) (total : ℕ) → plan_lines (Some l) n ts total ≡ plan_lines (Some l) n (take n ts) total
 unfolding start
 plan_take n l ts total =
     plan_claim n l ts total
     ∙ ap (λ (lines : List (ℕ × ℕ)). claim_text (record { n = n; latency = l; total = total; lines = lines })) (listed_cong _ _ n (λ i h. ap (λ (t : ℕ). (i, t)) (sym (get_or-take n ts i 0 h))))
     ∙ sym (plan_claim n l (take n ts) total)
 
-told_best : (best : Best) (l : ℕ) → best_told best ≡ some l → best ≡ Latency l
+told_best : (best : Best) (l : ℕ) → best_told best ≡ some l → best ≡ Some l
 unfolding best_told
-told_best Nothing l e = let z : ◌≡◌ {A = ℕ} 0 1 = cc in absurd (omega arith)
-told_best (Latency k) l e = let z : k ≡ l = cc in ap Latency z
+told_best None l e = let z : ◌≡◌ {A = ℕ} 0 1 = cc in absurd (omega arith)
+told_best (Some k) l e = let z : k ≡ l = cc in ap Some z
 
 -- a sound record's best and total fit their bytes
-sound_fits : (s : Search) (l : ℕ) → sound s ≡ true → s.best ≡ Latency l → (l < 65536) × (s.total < 4294967296)
+sound_fits : (s : Search) (l : ℕ) → sound s ≡ true → s.best ≡ Some l → (l < 65536) × (s.total < 4294967296)
 unfolding sound sound_best
 sound_fits s l e is =
     let r = both _ (sound_best s.batch.n s.best s.starts) e in
@@ -292,5 +292,5 @@ plan_right_lem file b f cs l e text w =
       total_fits = fits.1;
       is =
           accept_eq (sym w ∙ text_plans file b f cs t.0) ∙ ap (λ (x : Best). plan_lines x b.n s.starts s.total) best
-          ∙ plan_take b.n l s.starts s.total ∙ ap (λ (x : ℕ). plan_lines (Latency x) b.n (take b.n s.starts) s.total) (sym p.1);
+          ∙ plan_take b.n l s.starts s.total ∙ ap (λ (x : ℕ). plan_lines (Some x) b.n (take b.n s.starts) s.total) (sym p.1);
     }

@@ -10,8 +10,8 @@ use lib.ListN.{length, take, drop}
 use lib.Dec.{leb}
 use borrow.Author.Tests.{leb-true, leb-false}
 use Rattle.model.specs.declared.Batch.{Batch}
-use Rattle.model.specs.declared.Best.{Best}
-use Rattle.model.specs.declared.Best.TheVariants.{Nothing, Latency}
+use Rattle.model.specs.Best.{Best}
+use Rattle.std.specs.Prelude.{None, Some}
 use Rattle.model.specs.declared.Search.{Search}
 use Rattle.model.specs.declared.Answer.{Answer}
 use Rattle.model.specs.Common.{Outcome, refuse, accept, ◌>>=◌, require}
@@ -56,8 +56,8 @@ nodes_batch cs (suc k) s = go s.ended (nodes_batch cs k (node cs s))
 pub answer_told : (ended : Bool) (best : Best) (total : ℕ) → run_told (answer_of ended best total) ≡ accept (verdict_of ended (best_told best) total)
 unfolding answer_of run_told verdict_of best_told
 answer_told false best total = refl
-answer_told true Nothing total = refl
-answer_told true (Latency l) total = refl
+answer_told true None total = refl
+answer_told true (Some l) total = refl
 
 -- what an answer says of the list that it leaves
 record Listed (n : ℕ) (starts list : List ℕ) (a : Answer) : Type 0 where
@@ -73,13 +73,13 @@ listed false best total n starts list =
       none_list = λ t e. refl;
       plan_list = λ l t e. let z : ◌≡◌ {A = ℕ} 0 1 = cc in absurd (omega arith);
     }
-listed true Nothing total n starts list =
+listed true None total n starts list =
     record {
       spent_list = λ t e. refl;
       none_list = λ t e. refl;
       plan_list = λ l t e. let z : ◌≡◌ {A = ℕ} 0 1 = cc in absurd (omega arith);
     }
-listed true (Latency m) total n starts list =
+listed true (Some m) total n starts list =
     record {
       spent_list = λ t e. let z : ◌≡◌ {A = ℕ} 0 1 = cc in absurd (omega arith);
       none_list = λ t e. let z : ◌≡◌ {A = ℕ} 0 1 = cc in absurd (omega arith);

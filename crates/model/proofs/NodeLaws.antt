@@ -16,8 +16,8 @@ use borrow.Author.Tests.{leb-false}
 use Rattle.model.specs.declared.Delay.{Delay}
 use Rattle.model.specs.declared.Batch.{Batch}
 use Rattle.model.specs.declared.Turn.{Turn}
-use Rattle.model.specs.declared.Best.{Best}
-use Rattle.model.specs.declared.Best.TheVariants.{Nothing, Latency}
+use Rattle.model.specs.Best.{Best}
+use Rattle.std.specs.Prelude.{None, Some}
 use Rattle.model.specs.Common.{eq_z}
 use Rattle.model.specs.Limits.{most_jobs, most_ticks, stations, most_clashes, most_weight, most_earliest, most_rest}
 use Rattle.model.specs.Batch.{ticks, delays_of, rest_of, earliest, earliest_starts, latest_starts}
@@ -171,8 +171,8 @@ module _ (b : Batch) (fits : Fits b) where
   -- ---- a valid plan is at or above best, or still open
 
   abbrev pub BestLe : Best → ℕ → Type 0
-  BestLe Nothing l = ⊥
-  BestLe (Latency k) l = k ≤ l
+  BestLe None l = ⊥
+  BestLe (Some k) l = k ≤ l
 
   unfoldable pub Live : List ℕ → Place → Type 0
   Live us p = BestLe p.incumbent.best (latency b us) ⊎ ((p.ended ≡ false) × Open (KT us) p.turns)
@@ -189,13 +189,13 @@ module _ (b : Batch) (fits : Fits b) where
 
   pruned_le : (best : Best) (l m : ℕ) → prunes best l ≡ true → l ≤ m → BestLe best m
   unfolding prunes
-  pruned_le Nothing l m e h = apart e
-  pruned_le (Latency k) l m e h = omega (arith, pruned_from k l e)
+  pruned_le None l m e h = apart e
+  pruned_le (Some k) l m e h = omega (arith, pruned_from k l e)
 
   unpruned_le : (best : Best) (l m : ℕ) → prunes best l ≡ false → BestLe best m → l ≤ m
   unfolding prunes
-  unpruned_le Nothing l m e h = absurd h
-  unpruned_le (Latency k) l m e h = omega (arith, leb-false k l e)
+  unpruned_le None l m e h = absurd h
+  unpruned_le (Some k) l m e h = omega (arith, leb-false k l e)
 
   -- a valid plan keeps one side of a turn on any clash
   plan_side : (us : List ℕ) → Valid b us → (k : ℕ) → k < length (clashes b) → KT us (record { clash = k; side = 0 }) ⊎ KT us (record { clash = k; side = 1 })
@@ -225,7 +225,7 @@ module _ (b : Batch) (fits : Fits b) where
       at_clash ss g q (some k) f = append k (omega (arith, (met_first (clashes b) ss 0 k f).1)) l
       at_clash ss g q none f =
           back_live us p.turns (become_best b ss)
-          (gone (Latency (latency b ss)) (unpruned_le best (latency b ss) (latency b us) q) (λ h. least us v p.turns h ss g) l)
+          (gone (Some (latency b ss)) (unpruned_le best (latency b ss) (latency b us) q) (λ h. least us v p.turns h ss g) l)
 
       at_starts : (ss : List ℕ) → starts_at (clashes b) b p.turns ≡ some ss → (q : Bool) → prunes best (latency b ss) ≡ q → Live us (if q then back p.turns p.incumbent else branch b p ss (first_met (clashes b) ss 0))
       at_starts ss g true q =

@@ -13,8 +13,8 @@ use lib.Seq.{take_at}
 use lib.Dec.{leb}
 use borrow.Author.Tests.{leb-true, le-leb}
 use Rattle.model.specs.declared.Batch.{Batch}
-use Rattle.model.specs.declared.Best.{Best}
-use Rattle.model.specs.declared.Best.TheVariants.{Nothing, Latency}
+use Rattle.model.specs.Best.{Best}
+use Rattle.std.specs.Prelude.{None, Some}
 use Rattle.model.specs.declared.Search.{Search}
 use Rattle.model.specs.Common.{all, count, is_some, Outcome, refuse, accept, ◌>>=◌, require}
 use Rattle.model.specs.Limits.{stations, most_clashes, most_start, most_latency}
@@ -224,8 +224,8 @@ module _ (file : List ℕ) (b : Batch) (f : BatchFile file b) where
   -- best is a valid plan with its latency
   valid_best : (best : Best) (starts : List ℕ) → ValidBest b (record { best = best; starts = starts }) → (l : ℕ) → best_told best ≡ some l → PlanWith b starts l
   unfolding best_told PlanWith
-  valid_best Nothing starts v l e = let z : ◌≡◌ {A = ℕ} 0 1 = cc in absurd (omega arith)
-  valid_best (Latency k) starts v l e = let z : k ≡ l = cc in (v.0, v.1 ∙ z)
+  valid_best None starts v l e = let z : ◌≡◌ {A = ℕ} 0 1 = cc in absurd (omega arith)
+  valid_best (Some k) starts v l e = let z : k ≡ l = cc in (v.0, v.1 ∙ z)
 
   pub best_plans : (cs : List Call) → let s = after (fresh_search b) cs in (l : ℕ) → best_told s.best ≡ some l → PlanWith b s.starts l
   unfolding place_of
@@ -237,8 +237,8 @@ module _ (file : List ℕ) (b : Batch) (f : BatchFile file b) where
   -- and keeps 02's limits: no start above 43,000, no latency above 43,016
   limited : (best : Best) (starts : List ℕ) → sound_best b.n best starts ≡ true → (l : ℕ) → best_told best ≡ some l → ((i : ℕ) → i < b.n → start starts i ≤ most_start) × (l ≤ most_latency)
   unfolding best_told sound_best
-  limited Nothing starts h l e = let z : ◌≡◌ {A = ℕ} 0 1 = cc in absurd (omega arith)
-  limited (Latency k) starts h l e =
+  limited None starts h l e = let z : ◌≡◌ {A = ℕ} 0 1 = cc in absurd (omega arith)
+  limited (Some k) starts h l e =
       let z : k ≡ l = cc in
       let r = both (leb k most_latency) _ h in (
         λ i g. leb-true (start starts i) most_start (all_each (λ i. leb (start starts i) most_start) (count 0 b.n) r.1 (some_count 0 b.n i (omega arith) (omega arith))),

@@ -7,8 +7,8 @@ use mathlib.Core.List.{List}
 use native.Mathlib.Omega.{arith}
 use lib.ListN.{length, replicate}
 use Rattle.model.specs.declared.Batch.{Batch}
-use Rattle.model.specs.declared.Best.{Best}
-use Rattle.model.specs.declared.Best.TheVariants.{Nothing, Latency}
+use Rattle.model.specs.Best.{Best}
+use Rattle.std.specs.Prelude.{None, Some}
 use Rattle.model.specs.declared.Search.{Search}
 use Rattle.model.specs.declared.Ran.{Ran}
 use Rattle.model.specs.Common.{Outcome, refuse, accept, ◌>>=◌}
@@ -28,8 +28,8 @@ use Rattle.model.proofs.LeaveLaws.{run_sound}
 spent_open : (e : Bool) (best : Best) (total t : ℕ) → run_told (answer_of e best total) ≡ accept (spent t) → e ≡ false
 unfolding run_told answer_of
 spent_open false best total t h = refl
-spent_open true Nothing total t h = let z : ◌≡◌ {A = ℕ} 0 1 = cc in absurd (omega arith)
-spent_open true (Latency l) total t h = let z : ◌≡◌ {A = ℕ} 0 1 = cc in absurd (omega arith)
+spent_open true None total t h = let z : ◌≡◌ {A = ℕ} 0 1 = cc in absurd (omega arith)
+spent_open true (Some l) total t h = let z : ◌≡◌ {A = ℕ} 0 1 = cc in absurd (omega arith)
 
 -- nodes on an ended search leave it ended
 open_before : (k : ℕ) (s : Search) → (nodes k s).ended ≡ false → s.ended ≡ false

@@ -6,7 +6,7 @@ use mathlib.Core.Bool.{true}
 use mathlib.Core.List.{List}
 use borrow.Author.Tests.{leb-true}
 use Rattle.model.specs.declared.Batch.{Batch}
-use Rattle.model.specs.declared.Best.TheVariants.{Latency}
+use Rattle.std.specs.Prelude.{Some}
 use Rattle.model.specs.Plan.{Valid}
 use Rattle.model.specs.Search.{prunes}
 use Rattle.model.specs.Judge.{RightText}
@@ -20,6 +20,6 @@ pub right_valid : (b : Batch) (text : List ℕ) (r : RightText b text) → Valid
 right_valid b text r = r.valid
 
 -- a best rules out what is at or above it
-pub pruned_from : (k l : ℕ) → prunes (Latency k) l ≡ true → k ≤ l
+pub pruned_from : (k l : ℕ) → prunes (Some k) l ≡ true → k ≤ l
 unfolding prunes
 pruned_from k l e = leb-true k l e

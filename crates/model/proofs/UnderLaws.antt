@@ -15,8 +15,8 @@ use lib.Dec.{leb}
 use borrow.Author.Tests.{leb-true, le-leb}
 use Rattle.model.specs.declared.Delay.{Delay}
 use Rattle.model.specs.declared.Batch.{Batch}
-use Rattle.model.specs.declared.Best.{Best}
-use Rattle.model.specs.declared.Best.TheVariants.{Nothing, Latency}
+use Rattle.model.specs.Best.{Best}
+use Rattle.std.specs.Prelude.{None, Some}
 use Rattle.model.specs.Common.{count}
 use Rattle.model.specs.Batch.{delays_of, earliest_starts, latest_starts}
 use Rattle.model.specs.Plan.{start, Keeps, latency}
@@ -169,8 +169,8 @@ module _ (first last : List ℕ) (qs : List Delay) (inside : Inside (length firs
 
 prunes_more : (best : Best) (l m : ℕ) → l ≤ m → prunes best l ≡ true → prunes best m ≡ true
 unfolding prunes
-prunes_more Nothing l m h e = e
-prunes_more (Latency k) l m h e = le-leb k m (omega (arith, leb-true k l e))
+prunes_more None l m h e = e
+prunes_more (Some k) l m h e = le-leb k m (omega (arith, leb-true k l e))
 
 module _ (cs : List Clash) (b : Batch) (p : Place) (qs : List Delay) (inside : Inside b.n qs) where
   abbrev least : Option (List ℕ)

@@ -1,8 +1,8 @@
 -- The number and values that 01, and 02 for judging, give each case of the enum answers: a refusal is its number, and what is accepted has its values.
 use Rattle.std.specs.Prelude.{ℕ, Bool, true, false}
 use Rattle.std.proofs.Math.Option.{Option, none, some}
-use Rattle.model.specs.declared.Best.{Best}
-use Rattle.model.specs.declared.Best.TheVariants.{Nothing, Latency}
+use Rattle.model.specs.Best.{Best}
+use Rattle.std.specs.Prelude.{None, Some}
 use Rattle.model.specs.declared.Answer.{Answer}
 use Rattle.model.specs.declared.Answer.TheVariants.{Spent, Plan, NoPlan, Refused}
 use Rattle.model.specs.declared.Opening.{Opening}
@@ -53,5 +53,5 @@ judge_told (Failed number) = refuse number
 
 -- best: none, or a latency
 unfoldable pub best_told : Best → Option ℕ
-best_told Nothing = none
-best_told (Latency latency) = some latency
+best_told None = none
+best_told (Some latency) = some latency

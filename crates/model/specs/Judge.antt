@@ -4,7 +4,7 @@ use Rattle.std.specs.Prelude.{ℕ, ◌+◌, ◌*◌, ◌<◌, ◌≡◌, Bool, �
 use mathlib.Core.List.{List, ◌∷◌, ◌++◌, Memᴰ, map}
 use Rattle.std.proofs.Math.IntN.{sub_ℕ}
 use Rattle.std.specs.Int.Signed.{le_z}
-use Rattle.model.specs.declared.Best.TheVariants.{Latency}
+use Rattle.std.specs.Prelude.{Some}
 use Rattle.model.specs.declared.Batch.{Batch}
 use Rattle.model.specs.declared.Delay.{Delay}
 use Rattle.model.specs.declared.Judgement.{Judgement}
@@ -28,7 +28,7 @@ pub record RightText (b : Batch) (text : List ℕ) : Type 0 where
   pub valid : Valid b starts
   pub latency_fits : latency b starts < 65536
   pub total_fits : total < 4294967296
-  pub is : text ≡ plan_lines (Latency (latency b starts)) b.n starts total
+  pub is : text ≡ plan_lines (Some (latency b starts)) b.n starts total
 
 -- ---- any plan text, right or not: what it claims
 

@@ -1,5 +1,7 @@
 -- Document 01 as definitions, in its order, and the change requests of 02 that landed, each where what it speaks of stands. `All` unfolds them together; the room marked has 01's marked batches.
 pub mod Common
+pub mod Refusal
+pub mod Best
 pub mod Limits
 pub mod Batch
 pub mod Plan

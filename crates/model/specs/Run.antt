@@ -1,7 +1,7 @@
 -- Run, with a budget of 0 to 1,000,000: refusals 11 to 14 in turn, then nodes until ended or the budget is used.
 use Rattle.std.specs.Prelude.{ℕ, ◌+◌, ◌-◌, Bool, true, false, ◌||◌, List, ◌++◌, length, take, drop, leb}
-use Rattle.model.specs.declared.Best.{Best}
-use Rattle.model.specs.declared.Best.TheVariants.{Nothing, Latency}
+use Rattle.model.specs.Best.{Best}
+use Rattle.std.specs.Prelude.{None, Some}
 use Rattle.model.specs.declared.Search.{Search}
 use Rattle.model.specs.declared.Tally.{Tally}
 use Rattle.model.specs.declared.Answer.{Answer}
@@ -26,8 +26,8 @@ counted t = record { total = t.total + 1; left = t.left - 1 }
 -- spent when the search has not ended, a plan when it has ended with a best, no plan when it has ended without
 unfoldable pub answer_of : Bool → Best → ℕ → Answer
 answer_of false best total = Spent total
-answer_of true Nothing total = NoPlan total
-answer_of true (Latency l) total = Plan l total
+answer_of true None total = NoPlan total
+answer_of true (Some l) total = Plan l total
 
 -- with a plan, the first n places of the starts list are the starts and the rest is unchanged; otherwise it is unchanged
 unfoldable pub starts_after : Answer → ℕ → List ℕ → List ℕ → List ℕ

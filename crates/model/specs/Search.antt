@@ -5,8 +5,8 @@ use Rattle.std.proofs.Math.IntN.{sub_ℕ}
 use Rattle.model.specs.declared.Delay.{Delay}
 use Rattle.model.specs.declared.Batch.{Batch}
 use Rattle.model.specs.declared.Turn.{Turn}
-use Rattle.model.specs.declared.Best.{Best}
-use Rattle.model.specs.declared.Best.TheVariants.{Nothing, Latency}
+use Rattle.model.specs.Best.{Best}
+use Rattle.std.specs.Prelude.{None, Some}
 use Rattle.model.specs.declared.Search.{Search}
 use Rattle.model.specs.Common.{up_to, pad, eq_z}
 use Rattle.model.specs.Limits.{most_jobs, most_clashes}
@@ -84,11 +84,11 @@ back ts found = back_to found (turned_back ts)
 
 -- best exists, and the latency is at or above best's
 unfoldable pub prunes : Best → ℕ → Bool
-prunes Nothing l = false
-prunes (Latency k) l = leb k l
+prunes None l = false
+prunes (Some k) l = leb k l
 
 unfoldable pub become_best : Batch → List ℕ → Incumbent
-become_best b ss = record { best = Latency (latency b ss); starts = pad most_jobs 0 ss }
+become_best b ss = record { best = Some (latency b ss); starts = pad most_jobs 0 ss }
 
 -- the first clash that is met is appended with side 0; if none is, the starts become best, and the search goes back
 unfoldable pub branch : Batch → Place → List ℕ → Option ℕ → Place
@@ -133,7 +133,7 @@ search_of b total p =
     }
 
 unfoldable pub fresh_place : Place
-fresh_place = record { turns = []; incumbent = record { best = Nothing; starts = replicate most_jobs 0 }; ended = false }
+fresh_place = record { turns = []; incumbent = record { best = None; starts = replicate most_jobs 0 }; ended = false }
 
 -- a path of 1,024 turns, all empty; no best, total 0, not ended
 unfoldable pub fresh_search : Batch → Search

@@ -2,8 +2,8 @@
 use Rattle.std.specs.Prelude.{ℕ, Bool, true, ◌&&◌, ◌||◌, not, List, [], ◌∷◌, map, length, drop, leb, ltb, eqb}
 use Rattle.model.specs.declared.Batch.{Batch}
 use Rattle.model.specs.declared.Turn.{Turn}
-use Rattle.model.specs.declared.Best.{Best}
-use Rattle.model.specs.declared.Best.TheVariants.{Nothing, Latency}
+use Rattle.model.specs.Best.{Best}
+use Rattle.std.specs.Prelude.{None, Some}
 use Rattle.model.specs.declared.Search.{Search}
 use Rattle.model.specs.Common.{all, any, count, is_empty}
 use Rattle.model.specs.Limits.{stations, most_start, most_latency, most_total}
@@ -47,8 +47,8 @@ sound_path s =
 
 -- best has starts up to 43,000 and latency up to 43,016
 unfoldable pub sound_best : ℕ → Best → List ℕ → Bool
-sound_best n Nothing starts = true
-sound_best n (Latency l) starts = leb l most_latency && all (λ i. leb (start starts i) most_start) (count 0 n)
+sound_best n None starts = true
+sound_best n (Some l) starts = leb l most_latency && all (λ i. leb (start starts i) most_start) (count 0 n)
 
 -- total is at most 100,000,000
 unfoldable pub sound : Search → Bool

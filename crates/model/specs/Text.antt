@@ -1,7 +1,7 @@
 -- Writing: the plan text, the batch text, and a text into a buffer. Refusals 12, 15, 16.
 use Rattle.std.specs.Prelude.{ℕ, List, [], ◌∷◌, ◌++◌, length, drop, leb}
-use Rattle.model.specs.declared.Best.{Best}
-use Rattle.model.specs.declared.Best.TheVariants.{Nothing, Latency}
+use Rattle.model.specs.Best.{Best}
+use Rattle.std.specs.Prelude.{None, Some}
 use Rattle.model.specs.declared.Search.{Search}
 use Rattle.model.specs.declared.Written.{Written}
 use Rattle.model.specs.declared.Written.TheVariants.{Bytes, Refused}
@@ -15,8 +15,8 @@ use Rattle.model.specs.Sound.{sound}
 
 -- B0, 01, n, latency, total; then for each job B1, job, start. No plan: B2, total
 unfoldable pub plan_lines : Best → ℕ → List ℕ → ℕ → List ℕ
-plan_lines Nothing n starts total = line (0xB2 ∷ four total)
-plan_lines (Latency l) n starts total =
+plan_lines None n starts total = line (0xB2 ∷ four total)
+plan_lines (Some l) n starts total =
     line (0xB0 ∷ 0x01 ∷ n ∷ (two l ++ four total)) ++ joined (λ i. line (0xB1 ∷ i ∷ two (start starts i))) (count 0 n)
 
 unfoldable pub plan_text : Search → Outcome (List ℕ)

@@ -2,8 +2,12 @@
 // of the C boundary too has C's layout.
 #![tactic(auto)]
 
+mod refusal;
+
 ghost use Rattle.std.specs.Prelude.{◌≡◌, ◌<◌};
 ghost use Rattle.model.specs.Search.{fresh_search};
+
+pub use refusal::Refusal;
 
 // A delay: `to` starts at least `weight` ticks after `from`.
 #[repr(C)]
@@ -53,18 +57,12 @@ pub struct Turn {
     pub side: u16,
 }
 
-// The incumbent's latency. Its starts stand beside it, since an enum holds no array.
-#[derive(Clone, Copy)]
-pub enum Best {
-    Nothing,
-    Latency(u16),
-}
-
+// `best` is the incumbent's latency; its starts stand beside it, since the record keeps them, as bytes that no step looks at, without a best too.
 #[derive(Clone, Copy)]
 pub struct Search {
     pub batch: Batch,
     pub path: [Turn; 1024],
-    pub best: Best,
+    pub best: Option<u16>,
     pub starts: [u16; 24],
     pub total: u32,
     pub ended: bool,
@@ -146,7 +144,7 @@ pub fn fresh(batch: Batch) -> Search
     Search {
         batch: batch,
         path: [EMPTY; 1024],
-        best: Best::Nothing,
+        best: None,
         starts: [0u16; 24],
         total: 0,
         ended: false,

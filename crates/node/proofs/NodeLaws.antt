@@ -6,8 +6,8 @@ use mathlib.Core.List.{List, []}
 use mathlib.Core.Option.{some}
 use native.Mathlib.Omega.{arith}
 use lib.ListN.{get_or, set}
-use Rattle.model.specs.declared.Best.{Best}
-use Rattle.model.specs.declared.Best.TheVariants.{Nothing, Latency}
+use Rattle.model.specs.Best.{Best}
+use Rattle.std.specs.Prelude.{None, Some}
 use Rattle.model.specs.Common.{count}
 use Rattle.model.specs.Search.{turned_back, back_to, back}
 use Rattle.clashes.specs.First.{Named}
@@ -65,10 +65,10 @@ pub returned_named : (codes turns₀ turns : List ℕ) (depth left c : ℕ) → 
 returned_named codes turns₀ turns depth left c g k h e = rw (e ∙ k.clash (left - 1) (omega arith)) (g.named (left - 1) (omega (arith, k.less)))
 
 -- the bound of best
-pub bound_none : (best : Best) → best ≡ Nothing → 43017 ≡ bound_of best
+pub bound_none : (best : Best) → best ≡ None → 43017 ≡ bound_of best
 unfolding bound_of
 bound_none best e = sym (ap bound_of e)
 
-pub bound_some : (best : Best) (k : ℕ) → best ≡ Latency k → k ≡ bound_of best
+pub bound_some : (best : Best) (k : ℕ) → best ≡ Some k → k ≡ bound_of best
 unfolding bound_of
 bound_some best k e = sym (ap bound_of e)

@@ -11,8 +11,8 @@ use lib.ListN.{length}
 use borrow.Author.Tests.{le-leb, lt-leb}
 use Rattle.model.specs.declared.Delay.{Delay}
 use Rattle.model.specs.declared.Turn.{Turn}
-use Rattle.model.specs.declared.Best.{Best}
-use Rattle.model.specs.declared.Best.TheVariants.{Nothing, Latency}
+use Rattle.model.specs.Best.{Best}
+use Rattle.std.specs.Prelude.{None, Some}
 use Rattle.model.specs.Common.{pad}
 use Rattle.model.specs.Batch.{earliest_starts, latest_starts}
 use Rattle.model.specs.Plan.{latency}
@@ -49,8 +49,8 @@ use Rattle.node.proofs.WorksLaws.{passes, good_turns, counts, bound_small, held,
 -- a latency below best's bound is not pruned
 below_kept : (best : Best) (l : ℕ) → l < bound_of best → prunes best l ≡ false
 unfolding bound_of prunes
-below_kept Nothing l h = refl
-below_kept (Latency k) l h = lt-leb k l h
+below_kept None l h = refl
+below_kept (Some k) l h = lt-leb k l h
 
 -- the same answer for the same arrays
 least_same : (tail head gap : List ℕ) (depth bound latency : ℕ) {n n' m m' : ℕ} {from from' to to' code code' stays stays' latest latest' starts starts' : List ℕ} → n ≡ n' → m ≡ m' → from ≡ from' → to ≡ to' → code ≡ code' → stays ≡ stays' → latest ≡ latest' → starts ≡ starts'
@@ -83,11 +83,11 @@ module _ (b : Batch) (sizes : Sizes) (kit : Kit) (t : Trail) (walk : Walk) (w : 
   gone at u h = go walk.best refl
     where
       go : (best : Best) → walk.best ≡ best → visit (clashes b) b (place_at t.turns walk) (least_starts (earliest_starts b) (latest_starts b) qs) ≡ back ts (incumbent walk.best walk.starts)
-      go Nothing e =
+      go None e =
           let p = passes b sizes kit t walk w in
           ap (visit (clashes b) b (place_at t.turns walk))
           (beyond_none b (fits b p) ts (good_named b ts (good_turns b sizes kit t walk w)) inside at u (omega (arith, h, ap bound_of e)))
-      go (Latency k) e = stopped_back (clashes b) b (place_at t.turns walk) qs inside at u (rw e (le-leb k (latency b at) (omega (arith, h, ap bound_of e))))
+      go (Some k) e = stopped_back (clashes b) b (place_at t.turns walk) qs inside at u (rw e (le-leb k (latency b at) (omega (arith, h, ap bound_of e))))
 
   lost : starts_at (clashes b) b ts ≡ none → next (clashes b) b (place_at t.turns walk) ≡ back ts (incumbent walk.best walk.starts)
   unfolding next visit place_at

@@ -11,8 +11,8 @@ use lib.ListN.{length, get_or, set}
 use lib.Seq.{get_or-set_same, get_or-set_other}
 use Rattle.model.specs.declared.Batch.{Batch}
 use Rattle.model.specs.declared.Turn.{Turn}
-use Rattle.model.specs.declared.Best.{Best}
-use Rattle.model.specs.declared.Best.TheVariants.{Latency}
+use Rattle.model.specs.Best.{Best}
+use Rattle.std.specs.Prelude.{Some}
 use Rattle.model.specs.Common.{pad}
 use Rattle.model.specs.Batch.{earliest_starts, latest_starts}
 use Rattle.model.specs.Plan.{latency}
@@ -132,10 +132,10 @@ module _ (b : Batch) (sizes : Sizes) (kit : Kit) (t : Trail) (walk : Walk) (w : 
           starts ss (λ i p. ap (λ (x : List ℕ). get_or x i 0) l.padded ∙ pad_at 24 0 ss i)
 
       -- no clash is met: best
-      pub visit_best : (q : Place) → m ≡ seen.Nothing → q ≡ back ts (incumbent (Latency last) starts) → q ≡ next (clashes b) b place
+      pub visit_best : (q : Place) → m ≡ seen.Nothing → q ≡ back ts (incumbent (Some last) starts) → q ≡ next (clashes b) b place
       unfolding branch become_best place_at
       visit_best q u v =
-          v ∙ ap (λ (k : ℕ). back ts (incumbent (Latency k) starts)) l.told ∙ ap (λ (x : List ℕ). back ts (incumbent (Latency (latency b ss)) x)) l.padded
+          v ∙ ap (λ (k : ℕ). back ts (incumbent (Some k) starts)) l.told ∙ ap (λ (x : List ℕ). back ts (incumbent (Some (latency b ss)) x)) l.padded
           ∙ sym (decided ∙ ap (branch b place ss) (met_none _ (sym met_tells ∙ u)))
 
       -- a clash is met: one turn more

@@ -12,8 +12,8 @@ use borrow.Author.Tests.{leb-true}
 use Rattle.model.specs.declared.Batch.{Batch}
 use Rattle.model.specs.declared.Delay.{Delay}
 use Rattle.model.specs.declared.Turn.{Turn}
-use Rattle.model.specs.declared.Best.{Best}
-use Rattle.model.specs.declared.Best.TheVariants.{Nothing, Latency}
+use Rattle.model.specs.Best.{Best}
+use Rattle.std.specs.Prelude.{None, Some}
 use Rattle.model.specs.Batch.{blank_delay, delays_of}
 use Rattle.model.specs.Limits.{most_clashes}
 use Rattle.model.specs.Clash.{clashes}
@@ -73,8 +73,8 @@ search_batch b total q = refl
 -- the bound of a best within its limits
 bounded : (n : ℕ) (best : Best) (starts : List ℕ) → sound_best n best starts ≡ true → bound_of best ≤ 43017
 unfolding bound_of sound_best
-bounded n Nothing starts e = omega arith
-bounded n (Latency k) starts e = omega (arith, leb-true k 43016 (both (leb k 43016) _ e).0)
+bounded n None starts e = omega arith
+bounded n (Some k) starts e = omega (arith, leb-true k 43016 (both (leb k 43016) _ e).0)
 
 -- an item of a list, mapped
 mapped_at : {A B : Type 0} (f : A → B) (xs : List A) (k : ℕ) (d : B) (e : A) → k < length xs → get_or (map f xs) k d ≡ f (get_or xs k e)

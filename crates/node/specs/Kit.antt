@@ -2,7 +2,7 @@
 use Rattle.std.specs.Prelude.{◌≡◌, Bool, true, false, List, ℕ, ◌≤◌}
 use Rattle.std.proofs.Math.Option.{some}
 use Rattle.model.specs.declared.Batch.{Batch}
-use Rattle.model.specs.declared.Best.{Best}
+use Rattle.model.specs.Best.{Best}
 use Rattle.model.specs.Common.{pad}
 use Rattle.model.specs.Plan.{latency}
 use Rattle.model.specs.Clash.{clashes}

@@ -2,8 +2,8 @@
 use Rattle.std.specs.Prelude.{ℕ, zero, suc, ◌/◌, ◌%◌, ◌≤◌, ◌<◌, ◌≡◌, List, map, get_or, length}
 use Rattle.std.proofs.Math.Option.{Option, none, some}
 use Rattle.model.specs.declared.Turn.{Turn}
-use Rattle.model.specs.declared.Best.{Best}
-use Rattle.model.specs.declared.Best.TheVariants.{Nothing, Latency}
+use Rattle.model.specs.Best.{Best}
+use Rattle.std.specs.Prelude.{None, Some}
 use Rattle.model.specs.Common.{count}
 use Rattle.model.specs.Search.{Incumbent, Place}
 use Rattle.clashes.specs.First.{Named}
@@ -37,8 +37,8 @@ back_as turns (suc d) = some (turns_in turns (suc d))
 
 -- a latency at or above this sends a node back: best's, or one above the largest that there is
 unfoldable pub bound_of : Best → ℕ
-bound_of Nothing = 43017
-bound_of (Latency k) = k
+bound_of None = 43017
+bound_of (Some k) = k
 
 -- the first turns are on clashes that the codes name
 pub record Coded (codes turns : List ℕ) (depth : ℕ) : Type 0 where

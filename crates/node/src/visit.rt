@@ -7,7 +7,7 @@ ghost use Rattle.node.specs.Kit.{Ready, Reaches, Returned, Visited};
 use crate::back::go_back;
 use crate::rows::begin;
 use clashes::{Met, first_met};
-use model::{Best, wide16};
+use model::{wide16};
 use pairs::unmet;
 use starts::least_starts;
 use weights::turn::store_turn;
@@ -16,7 +16,7 @@ use weights::turn::store_turn;
 #[derive(Clone, Copy)]
 pub struct Walk {
     pub depth: usize,
-    pub best: Best,
+    pub best: Option<u16>,
     pub starts: [u16; 24],
     pub ended: bool,
 }
@@ -32,10 +32,10 @@ pub struct Sizes {
 }
 
 // A latency at or above this sends a node back: best's, or one above the largest that there is.
-fn bound_of(best: Best) -> u16
+fn bound_of(best: Option<u16>) -> u16
     ensures { result ≡ bound_of best }
 {
-    let Best::Latency(least) = best else {
+    let Some(least) = best else {
         return 43017;
     };
     least
@@ -115,7 +115,7 @@ fn gone_back(
     gap: &mut [u16; 1024],
     codes: &[u16; 1024],
     depth: usize,
-    best: Best,
+    best: Option<u16>,
     starts: [u16; 24],
 ) -> Walk
     requires path { Path turns.old depth × Coded codes.now turns.old depth }
@@ -208,7 +208,7 @@ pub fn visit(
             gap,
             codes,
             depth,
-            Best::Latency(latency),
+            Some(latency),
             starts,
         );
     };

@@ -10,8 +10,8 @@ use types.Run.{OneOf}
 use denote.Enum.Declared.{tag_of}
 use borrow.Author.Tests.{le-leb}
 use Rattle.model.specs.declared.Batch.{Batch}
-use Rattle.model.specs.declared.Best.{Best}
-use Rattle.model.specs.declared.Best.TheVariants.{Nothing, Latency}
+use Rattle.model.specs.Best.{Best}
+use Rattle.std.specs.Prelude.{None, Some}
 use Rattle.model.specs.declared.Search.{Search}
 use Rattle.model.specs.declared.Ran.{Ran}
 use Rattle.model.specs.declared.Opened.{Opened}
@@ -56,8 +56,8 @@ module _ (buffer first second third : List ℕ) (k kind byte r : ℕ) (room : 5 
 
 lines_room : (best : Best) (n : ℕ) (starts : List ℕ) (total : ℕ) → n ≤ 24 → length (plan_lines best n starts total) ≤ 235
 unfolding plan_lines no_plan_line found_lines head_line start_lines start_line
-lines_room Nothing n starts total h = omega (arith, no_plan_length total)
-lines_room (Latency l) n starts total h = omega (arith, found_length n l starts total)
+lines_room None n starts total h = omega (arith, no_plan_length total)
+lines_room (Some l) n starts total h = omega (arith, found_length n l starts total)
 
 plan_room : (s : Search) (t : List ℕ) → plan_text s ≡ accept t → length t ≤ 235
 plan_room s t e = go (sound s) s.ended refl refl

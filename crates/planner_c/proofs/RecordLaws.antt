@@ -9,8 +9,8 @@ use native.Mathlib.Omega.{arith}
 use lib.Dec.{eqb}
 use lib.ListN.{length}
 use borrow.Author.Tests.{ne_eqb}
-use Rattle.model.specs.declared.Best.{Best}
-use Rattle.model.specs.declared.Best.TheVariants.{Nothing, Latency}
+use Rattle.model.specs.Best.{Best}
+use Rattle.std.specs.Prelude.{None, Some}
 use Rattle.model.specs.declared.Search.{Search}
 use Rattle.model.specs.declared.Ran.{Ran}
 use Rattle.model.specs.declared.Opening.TheVariants.{Accepted}
@@ -27,8 +27,8 @@ use Rattle.planner_c.specs.Calls.{record_opened, opened_as, opened_record, recor
 
 best_back : (b : Best) → best_in (found_of b) (latency_of b) ≡ b
 unfolding best_in
-best_back Nothing = refl
-best_back (Latency l) = refl
+best_back None = refl
+best_back (Some l) = refl
 
 ended_back : (e : Bool) → not (eqb (flag_of e) 0) ≡ e
 ended_back true = refl
@@ -43,8 +43,8 @@ search_back s = λ i. record { batch = s.batch; path = s.path; best = best_back 
 pub reached : (e : Bool) (b : Best) (k : ℕ) (s : Record) (t : Search) → record_after s (answer_of e b k) t ≡ record_of t
 unfolding record_after answer_of
 reached false b k s t = refl
-reached true Nothing k s t = refl
-reached true (Latency l) k s t = refl
+reached true None k s t = refl
+reached true (Some l) k s t = refl
 
 -- what the planner's run yields, as C gets it
 abbrev pub in_c : Ran × List ℕ → (Reply × Record) × List ℕ
@@ -90,8 +90,8 @@ unfolding record_of
 record_plain s = record { found = (best s.best).0; ended = flag s.ended; latency = (best s.best).1 }
   where
     best : (b : Best) → (found_of b ≤ 1) × (found_of b ≡ 0 → latency_of b ≡ 0)
-    best Nothing = (omega arith, λ e. refl)
-    best (Latency l) = (omega arith, λ e. absurd (omega arith))
+    best None = (omega arith, λ e. refl)
+    best (Some l) = (omega arith, λ e. absurd (omega arith))
 
     flag : (e : Bool) → flag_of e ≤ 1
     flag true = omega arith

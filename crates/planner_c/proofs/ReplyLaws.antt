@@ -10,8 +10,8 @@ use native.Mathlib.Omega.{arith}
 use lib.Dec.{eqb}
 use lib.ListN.{length, drop}
 use Rattle.model.specs.declared.Batch.{Batch}
-use Rattle.model.specs.declared.Best.{Best}
-use Rattle.model.specs.declared.Best.TheVariants.{Nothing, Latency}
+use Rattle.model.specs.Best.{Best}
+use Rattle.std.specs.Prelude.{None, Some}
 use Rattle.model.specs.declared.Ran.{Ran}
 use Rattle.model.specs.declared.Answer.{Answer}
 use Rattle.model.specs.declared.Answer.TheVariants.{Spent, Plan, NoPlan, Refused}
@@ -89,8 +89,8 @@ reply_told_lem (Refused number) = refl
 answer_kind : (e : Bool) (b : Best) (total : ℕ) → ((reply_of (answer_of e b total)).kind ≢ 3) × ((reply_of (answer_of e b total)).refusal ≡ 0)
 unfolding reply_of answer_of
 answer_kind false b total = (λ z. absurd (omega arith), refl)
-answer_kind true Nothing total = (λ z. absurd (omega arith), refl)
-answer_kind true (Latency l) total = (λ z. absurd (omega arith), refl)
+answer_kind true None total = (λ z. absurd (omega arith), refl)
+answer_kind true (Some l) total = (λ z. absurd (omega arith), refl)
 
 -- the numbers are those of 01's answer. The kind is 3 exactly where 01's table refuses the run: then the refusal is 11 to 14, and record and list are those
 -- given. Any other kind has refusal 0, and the record is that of the search reached

@@ -2,7 +2,7 @@
 ghost use Rattle.std.specs.Prelude.{◌≡◌};
 ghost use Rattle.planner_c.specs.Records.{best_in, found_of, latency_of, flag_of, search_in, record_of};
 
-use model::{Batch, Best, Search, Turn};
+use model::{Batch, Search, Turn};
 
 // `found` and `ended` are 0 for no and anything else for yes; without a best, `latency` and `starts` are not looked at. No byte of it is padding.
 #[repr(C)]
@@ -18,32 +18,32 @@ pub struct Record {
 }
 
 // Best as the two numbers say.
-fn best_in(found: u8, latency: u16) -> Best
+fn best_in(found: u8, latency: u16) -> Option<u16>
     ensures { result ≡ best_in found latency }
 {
     if found == 0 {
-        return Best::Nothing;
+        return None;
     }
-    Best::Latency(latency)
+    Some(latency)
 }
 
 // Whether there is a best.
-fn found_of(best: Best) -> u8
+fn found_of(best: Option<u16>) -> u8
     ensures { result ≡ found_of best }
 {
     match best {
-        Best::Nothing => 0,
-        Best::Latency(_) => 1,
+        None => 0,
+        Some(_) => 1,
     }
 }
 
 // Its latency, 0 without one.
-fn latency_of(best: Best) -> u16
+fn latency_of(best: Option<u16>) -> u16
     ensures { result ≡ latency_of best }
 {
     match best {
-        Best::Nothing => 0,
-        Best::Latency(latency) => latency,
+        None => 0,
+        Some(latency) => latency,
     }
 }
 

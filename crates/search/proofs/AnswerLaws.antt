@@ -7,8 +7,8 @@ use native.Mathlib.Omega.{arith}
 use native.Mathlib.Numerals.{add-one}
 use lib.ListN.{length, get_or, set, take, drop}
 use lib.Seq.{paste-suc}
-use Rattle.model.specs.declared.Best.{Best}
-use Rattle.model.specs.declared.Best.TheVariants.{Nothing, Latency}
+use Rattle.model.specs.Best.{Best}
+use Rattle.std.specs.Prelude.{None, Some}
 use Rattle.model.specs.declared.Answer.{Answer}
 use Rattle.model.specs.declared.Answer.TheVariants.{Spent, Plan, NoPlan}
 use Rattle.model.specs.Run.{answer_of, starts_after}
@@ -30,11 +30,11 @@ module _ (total n : ℕ) (starts list : List ℕ) where
   unfolding answer_of starts_after
   told_spent ended best e = (ap (λ (p : Bool). answer_of p best total) (sym e), refl)
 
-  pub told_none : (ended : Bool) (best : Best) → ended ≡ true → best ≡ Nothing → Told ended best total n starts list (NoPlan total) list
+  pub told_none : (ended : Bool) (best : Best) → ended ≡ true → best ≡ None → Told ended best total n starts list (NoPlan total) list
   unfolding answer_of starts_after
-  told_none ended best e b = (ap (λ (p : Bool). answer_of p Nothing total) (sym e) ∙ ap (λ (x : Best). answer_of ended x total) (sym b), refl)
+  told_none ended best e b = (ap (λ (p : Bool). answer_of p None total) (sym e) ∙ ap (λ (x : Best). answer_of ended x total) (sym b), refl)
 
-  pub told_plan : (ended : Bool) (best : Best) (l k : ℕ) (list' : List ℕ) → ended ≡ true → best ≡ Latency l → k ≡ n → list' ≡ take k starts ++ drop k list → Told ended best total n starts list (Plan l total) list'
+  pub told_plan : (ended : Bool) (best : Best) (l k : ℕ) (list' : List ℕ) → ended ≡ true → best ≡ Some l → k ≡ n → list' ≡ take k starts ++ drop k list → Told ended best total n starts list (Plan l total) list'
   unfolding answer_of starts_after
   told_plan ended best l k list' e b m g =
-      (ap (λ (p : Bool). answer_of p (Latency l) total) (sym e) ∙ ap (λ (x : Best). answer_of ended x total) (sym b), g ∙ ap (λ (i : ℕ). take i starts ++ drop i list) m)
+      (ap (λ (p : Bool). answer_of p (Some l) total) (sym e) ∙ ap (λ (x : Best). answer_of ended x total) (sym b), g ∙ ap (λ (i : ℕ). take i starts ++ drop i list) m)

@@ -2,7 +2,7 @@
 ghost use Rattle.std.specs.Prelude.{◌≡◌, ◌++◌, ◌≤◌, length, take, drop};
 ghost use Rattle.model.specs.Run.{answer_of, starts_after};
 
-use model::{Answer, Best, Search, wide};
+use model::{Answer, Search, wide};
 
 // The first n starts go to the front of the list, and the rest of it stays.
 fn give_starts(starts: [u16; 24], n: usize, list: &mut [u16])
@@ -27,7 +27,7 @@ pub fn answered(search: Search, list: &mut [u16]) -> Answer
         return Answer::Spent(total);
     }
     let best = search.best;
-    let Best::Latency(latency) = best else {
+    let Some(latency) = best else {
         return Answer::NoPlan(total);
     };
     let starts = search.starts;

@@ -6,8 +6,8 @@ use mathlib.Core.List.{List}
 use lib.ListN.{get_or}
 use lib.Dec.{leb}
 use borrow.Author.Tests.{le-leb, lt-leb}
-use Rattle.model.specs.declared.Best.{Best}
-use Rattle.model.specs.declared.Best.TheVariants.{Nothing, Latency}
+use Rattle.model.specs.Best.{Best}
+use Rattle.std.specs.Prelude.{None, Some}
 use Rattle.model.specs.Plan.{start}
 use Rattle.model.specs.Sound.{sound_best}
 use Rattle.soundness.specs.Best.{starts_pass}
@@ -33,14 +33,14 @@ start_high starts i h = lt-leb (get_or starts i 0) 43000 h
 
 -- ---- best
 
-pub best_none : (n : ℕ) (best : Best) (starts : List ℕ) → best ≡ Nothing → true ≡ sound_best n best starts
+pub best_none : (n : ℕ) (best : Best) (starts : List ℕ) → best ≡ None → true ≡ sound_best n best starts
 unfolding sound_best
 best_none n best starts e = rw e
 
-pub best_some : (n : ℕ) (best : Best) (starts : List ℕ) (l : ℕ) (x : Bool) → best ≡ Latency l → l ≤ 43016 → x ≡ starts_pass n starts → x ≡ sound_best n best starts
+pub best_some : (n : ℕ) (best : Best) (starts : List ℕ) (l : ℕ) (x : Bool) → best ≡ Some l → l ≤ 43016 → x ≡ starts_pass n starts → x ≡ sound_best n best starts
 unfolding sound_best starts_pass
 best_some n best starts l x e h p = p ∙ rw (e, le-leb l 43016 h)
 
-pub best_late : (n : ℕ) (best : Best) (starts : List ℕ) (l : ℕ) → best ≡ Latency l → 43016 < l → leb l 43016 ≡ sound_best n best starts
+pub best_late : (n : ℕ) (best : Best) (starts : List ℕ) (l : ℕ) → best ≡ Some l → 43016 < l → leb l 43016 ≡ sound_best n best starts
 unfolding sound_best
 best_late n best starts l e h = rw (e, lt-leb l 43016 h)

@@ -3,7 +3,6 @@ ghost use Rattle.std.specs.Prelude.{◌≡◌, ◌≤◌};
 ghost use Rattle.model.specs.Sound.{sound_best};
 ghost use Rattle.soundness.specs.Best.{starts_pass};
 
-use model::Best;
 
 // The first n starts are at most 43,000.
 fn starts_ok(n: usize, starts: [u16; 24]) -> bool
@@ -21,12 +20,12 @@ fn starts_ok(n: usize, starts: [u16; 24]) -> bool
 }
 
 // What soundness asks of best and its starts.
-pub fn best_ok(n: usize, best: Best, starts: [u16; 24]) -> bool
+pub fn best_ok(n: usize, best: Option<u16>, starts: [u16; 24]) -> bool
     requires { n ≤ 24 }
     ensures { result ≡ sound_best n best starts }
 {
     match best {
-        Best::Nothing => true,
-        Best::Latency(latency) => latency <= 43016 && starts_ok(n, starts),
+        None => true,
+        Some(latency) => latency <= 43016 && starts_ok(n, starts),
     }
 }

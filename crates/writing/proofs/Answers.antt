@@ -5,8 +5,8 @@ use mathlib.Core.Bool.{Bool}
 use mathlib.Core.List.{List}
 use lib.ListN.{length}
 use borrow.Author.Tests.{le-leb, lt-leb}
-use Rattle.model.specs.declared.Best.{Best}
-use Rattle.model.specs.declared.Best.TheVariants.{Nothing, Latency}
+use Rattle.model.specs.Best.{Best}
+use Rattle.std.specs.Prelude.{None, Some}
 use Rattle.model.specs.declared.Written.{Written}
 use Rattle.model.specs.declared.Written.TheVariants.{Bytes, Refused}
 use Rattle.model.specs.Common.{Outcome, refuse, accept, ◌>>=◌, require}
@@ -43,10 +43,10 @@ text_refused buffer number h = ap (λ (o : Outcome (List ℕ)). written o buffer
 
 -- ---- the plan text by what is best
 
-pub plan_none : (best : Best) (n : ℕ) (starts : List ℕ) (total : ℕ) → best ≡ Nothing → accept (no_plan_line total) ≡ accept (plan_lines best n starts total)
+pub plan_none : (best : Best) (n : ℕ) (starts : List ℕ) (total : ℕ) → best ≡ None → accept (no_plan_line total) ≡ accept (plan_lines best n starts total)
 unfolding plan_lines no_plan_line
 plan_none best n starts total h = ap (λ (found : Best). accept (plan_lines found n starts total)) (sym h)
 
-pub plan_some : (best : Best) (n : ℕ) (starts : List ℕ) (total : ℕ) {latency : ℕ} → best ≡ Latency latency → accept (found_lines n latency starts total) ≡ accept (plan_lines best n starts total)
+pub plan_some : (best : Best) (n : ℕ) (starts : List ℕ) (total : ℕ) {latency : ℕ} → best ≡ Some latency → accept (found_lines n latency starts total) ≡ accept (plan_lines best n starts total)
 unfolding plan_lines found_lines head_line start_lines start_line
 plan_some best n starts total h = ap (λ (found : Best). accept (plan_lines found n starts total)) (sym h)

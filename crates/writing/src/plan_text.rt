@@ -8,7 +8,7 @@ ghost use Rattle.writing.specs.Plan.{found_lines};
 
 use crate::plan::put_plan;
 use frame_put::put_no_plan;
-use model::{Best, Search, Written, wide};
+use model::{Search, Written, wide};
 
 // The plan text of a record.
 pub fn write_plan(search: Search, buffer: &mut [u8]) -> Written
@@ -30,13 +30,13 @@ pub fn write_plan(search: Search, buffer: &mut [u8]) -> Written
 }
 
 // The text of a search that has ended.
-fn write_ended(best: Best, n: u8, starts: [u16; 24], total: u32, buffer: &mut [u8]) -> Written
+fn write_ended(best: Option<u16>, n: u8, starts: [u16; 24], total: u32, buffer: &mut [u8]) -> Written
     requires { n ≤ most_jobs }
     ensures { (result, buffer.new) ≡ written (accept (plan_lines best n starts total)) buffer.old }
 {
     match best {
-        Best::Nothing => write_no_plan(total, buffer),
-        Best::Latency(latency) => write_found(n, latency, starts, total, buffer),
+        None => write_no_plan(total, buffer),
+        Some(latency) => write_found(n, latency, starts, total, buffer),
     }
 }
 

@@ -6,4 +6,4 @@ pub returns-in_default : goal.returns-in_default
 returns-in_default c = bound_none _ c.in_default.is
 
 pub returns : goal.returns
-returns c = bound_some _ _ c.in-Latency.is
+returns c = bound_some _ _ c.in-Some.is

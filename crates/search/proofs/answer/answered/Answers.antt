@@ -10,4 +10,4 @@ pub returns-in_default : goal.returns-in_default
 returns-in_default c = told_none _ _ _ _ _ _ (not-false c.args.search.ended c.if-not-search.false) c.in_default.is
 
 pub returns : goal.returns
-returns c = told_plan _ _ _ _ _ _ _ c.wide-n.result _ (not-false c.args.search.ended c.if-not-search.false) c.in-Latency.is c.wide-n.ensures.0 c.give_starts.ensures
+returns c = told_plan _ _ _ _ _ _ _ c.wide-n.result _ (not-false c.args.search.ended c.if-not-search.false) c.in-Some.is c.wide-n.ensures.0 c.give_starts.ensures
