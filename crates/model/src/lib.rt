@@ -11,7 +11,7 @@ pub use refusal::Refusal;
 
 // A delay: `to` starts at least `weight` ticks after `from`.
 #[repr(C)]
-#[derive(Clone, Copy)]
+#[derive(Clone, Copy, PartialEq, Eq)]
 pub struct Delay {
     pub from: u8,
     pub to: u8,
@@ -28,7 +28,7 @@ pub struct Job {
 
 // A job's earliest and latest start. `lined` is 0 where the file has no line for them, and anything else where it has one.
 #[repr(C)]
-#[derive(Clone, Copy)]
+#[derive(Clone, Copy, PartialEq, Eq)]
 pub struct Window {
     pub lined: u16,
     pub earliest: u16,
@@ -51,7 +51,7 @@ pub struct Batch {
 
 // A branching decision: the clash's number in the batch's list, and the side that is taken.
 #[repr(C)]
-#[derive(Clone, Copy)]
+#[derive(Clone, Copy, PartialEq, Eq)]
 pub struct Turn {
     pub clash: u16,
     pub side: u16,
