@@ -3,7 +3,7 @@ use Prim.Native.Nat.{ℕ, zero, suc, ◌+◌, ◌-◌, ◌/◌, ◌%◌, ◌≤�
 use mathlib.Core.Path.{◌≡◌, refl, sym, ap, ◌∙◌}
 use mathlib.Core.Bool.{Bool, true, false}
 use mathlib.Core.List.{List, [], ◌∷◌, map, Memᴰ}
-use mathlib.Core.Option.{Option, some}
+use mathlib.Core.Option.{Option as Found, some}
 use native.Mathlib.Numerals.{add-one}
 use native.Mathlib.Omega.{arith}
 use native.Mathlib.Decide.{ℕ_discrete}
@@ -18,8 +18,7 @@ use Rattle.model.specs.Search.{met, first_met}
 use Rattle.model.proofs.BoolLaws.{apart, decide}
 use Rattle.model.proofs.SeqLaws.{count_more, count_end}
 use Rattle.model.proofs.DistanceLaws.{eq_z_eq, eq_z_refl, sub_sum, sum_sub}
-use Rattle.clashes.specs.declared.Met.{Met}
-use Rattle.clashes.specs.declared.Met.TheVariants as answer
+use Rattle.std.specs.Prelude.{Option, None, Some}
 use Rattle.clashes.specs.Code.{clash_of}
 use Rattle.clashes.specs.First.{Unmet, clashes_in, met_of, first_code}
 
@@ -58,12 +57,12 @@ met_later c cs ts k e = go (met ts c) e
     go false e = refl
 
 -- the first that is met from code k on
-unfoldable pub first_from : List ℕ → List ℕ → ℕ → ℕ → Met
+unfoldable pub first_from : List ℕ → List ℕ → ℕ → ℕ → Option ℕ
 first_from codes ts k n = met_of (first_met (map (λ k. clash_of (get_or codes k 0)) (count k (n - k))) ts k)
 
 module _ (codes ts : List ℕ) (k n : ℕ) where
   -- code k is met: it is the first
-  pub first_found : (r : Bool) → k < n → r ≡ met ts (clash_of (get_or codes k 0)) → r ≡ true → answer.Clash k ≡ first_from codes ts k n
+  pub first_found : (r : Bool) → k < n → r ≡ met ts (clash_of (get_or codes k 0)) → r ≡ true → Some k ≡ first_from codes ts k n
   unfolding first_from met_of
   first_found r h e t =
       rw (count_more k n h)
@@ -77,7 +76,7 @@ module _ (codes ts : List ℕ) (k n : ℕ) where
       (rw (met_later (clash_of (get_or codes k 0)) (map (λ k. clash_of (get_or codes k 0)) (count (k + 1) (n - (k + 1)))) ts k (sym e ∙ t), add-one k))
 
   -- no code is left
-  pub first_end : n ≤ k → answer.Nothing ≡ first_from codes ts k n
+  pub first_end : n ≤ k → None ≡ first_from codes ts k n
   unfolding first_from first_met met_of
   first_end h = rw (count_end k n h)
 
@@ -105,7 +104,7 @@ first_agree (c ∷ cs) us ts k same =
     go (met us c) (met ts c) (same c (Memᴰ.head refl)) (first_agree cs us ts (suc k) (λ d m. same d (Memᴰ.tail m)))
   where
     go : (p q : Bool) → p ≡ q → first_met cs us (suc k) ≡ first_met cs ts (suc k)
-        → ◌≡◌ {A = Option ℕ} (elim p [ true ↦ some k | false ↦ first_met cs us (suc k) ]) (elim q [ true ↦ some k | false ↦ first_met cs ts (suc k) ])
+        → ◌≡◌ {A = Found ℕ} (elim p [ true ↦ some k | false ↦ first_met cs us (suc k) ]) (elim q [ true ↦ some k | false ↦ first_met cs ts (suc k) ])
     go true true e rec = refl
     go true false e rec = apart (sym e)
     go false true e rec = apart e

@@ -4,32 +4,26 @@ ghost use Rattle.model.specs.Search.{met};
 ghost use Rattle.clashes.specs.Code.{clash_of};
 ghost use Rattle.clashes.specs.First.{first_code, Known, Named, Unmet};
 
-use crate::Met;
-use model::wide16;
-
 // t_j - t_i = d for the clash of a code, as t_j + 22 = t_i + (d + 22).
 fn is_met(code: u16, starts: &[u16; 24]) -> bool
     requires { Named code }
     ensures { result ≡ met starts.now (clash_of code) }
 {
-    let x = wide16(code);
-    wide16(starts[x / 64 % 32]) + 22 == wide16(starts[x / 2048]) + x % 64
+    let x = usize::from(code);
+    usize::from(starts[x / 64 % 32]) + 22 == usize::from(starts[x / 2048]) + x % 64
 }
 
 // The number of the first of the codes below count whose clash is met. None below low is.
-pub fn first_met(codes: &[u16; 1024], low: usize, count: usize, starts: &[u16; 24]) -> Met
+pub fn first_met(codes: &[u16; 1024], low: usize, count: usize, starts: &[u16; 24]) -> Option<u16>
     requires low_le_count { (low ≤ count) × (count ≤ 1024) }
     requires known { Known codes.now count }
     requires unmet { Unmet codes.now starts.now low }
     ensures { result ≡ first_code codes.now count starts.now }
 {
-    let mut k = low;
-    while k < count {
+    for k in low..count {
         if is_met(codes[k], starts) {
-            let number = k as u16;
-            return Met::Clash(number);
+            return Some(k as u16);
         }
-        k = k + 1;
     }
-    Met::Nothing
+    None
 }

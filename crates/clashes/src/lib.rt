@@ -14,10 +14,3 @@ pub struct Clashes {
     pub count: usize,
     pub codes: [u16; 1024],
 }
-
-// The number, in the list, of the first clash that is met.
-#[derive(Clone, Copy)]
-pub enum Met {
-    Clash(u16),
-    Nothing,
-}

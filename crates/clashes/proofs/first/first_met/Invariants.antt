@@ -1,5 +1,5 @@
 -- `first::first_met` meets its contract. The invariant: the first that is met from code k on is the first of all.
-use Prim.Native.Nat.{◌≤◌, ◌-◌}
+use Prim.Native.Nat.{◌≤◌}
 use mathlib.Core.Path.{◌≡◌}
 use Rattle.clashes.specs.First.{first_code}
 use Rattle.clashes.proofs.FirstLaws.{first_from}
@@ -7,6 +7,3 @@ use Rattle.clashes.proofs.first.first_met.Given as goal
 
 abbrev pub invariant-loop-k : goal.invariant-loop-k
 invariant-loop-k l = (l.k ≤ l.count) × (first_from l.codes l.starts l.k l.count ≡ first_code l.codes l.count l.starts)
-
-abbrev pub decreases-loop-k : goal.decreases-loop-k
-decreases-loop-k l = l.count - l.k

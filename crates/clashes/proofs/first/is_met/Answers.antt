@@ -3,4 +3,4 @@ use Rattle.clashes.proofs.FirstLaws.{code_met}
 use Rattle.clashes.proofs.first.is_met.Goals as goal
 
 pub returns : goal.returns
-returns c = code_met _ _ _ _ _ c.wide16-x.ensures.0 c.wide16.ensures.0 c.wide16-2.ensures.0
+returns c = code_met _ _ _ _ _ c.from-x.ensures c.from.ensures c.from-2.ensures
