@@ -1,6 +1,6 @@
 // The limits of a batch's numbers, as tests: the edition (3), n, m and p (4), a delay's jobs (5) and its weight (6), a job's ends (20) and a
 // station's rest (21).
-#![tactic(auto)]
+#![tactic(auto, unfolding(model::specs::Common::between, model::specs::Window::ends_ok, model::specs::Open::edition_ok, model::specs::Open::counts_ok, model::specs::Open::ticks_ok, model::specs::Open::jobs_ok, model::specs::Open::weight_ok))]
 
 ghost use Rattle.std.specs.Prelude.{◌≡◌, ◌&&◌, leb};
 ghost use Rattle.model.specs.Common.{between};
@@ -21,43 +21,28 @@ pub fn edition_ok(edition: u8) -> bool
 pub fn counts_ok(n: u8, m: u8) -> bool
     ensures { result ≡ counts_ok n m }
 {
-    if n < 1 {
-        return false;
-    }
-    if 24 < n {
-        return false;
-    }
-    m <= 128
+    (1..=24).contains(&n) && m <= 128
 }
 
 // p is 1 to 16.
 pub fn ticks_ok(p: u16) -> bool
     ensures { result ≡ ticks_ok p }
 {
-    1 <= p && p <= 16
+    (1..=16).contains(&p)
 }
 
 // The delay names two different jobs below n.
 pub fn jobs_ok(n: u8, q: Delay) -> bool
     ensures { result ≡ jobs_ok n q }
 {
-    let from = q.from;
-    let to = q.to;
-    if n <= from {
-        return false;
-    }
-    if n <= to {
-        return false;
-    }
-    from != to
+    q.from < n && q.to < n && q.from != q.to
 }
 
 // The weight is -1,000 to 1,000.
 pub fn weight_ok(q: Delay) -> bool
     ensures { result ≡ weight_ok q }
 {
-    let w = q.weight;
-    -1000 <= w && w <= 1000
+    (-1000..=1000).contains(&q.weight)
 }
 
 // The delay's jobs and its weight are within their limits.

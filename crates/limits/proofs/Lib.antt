@@ -1,2 +1,0 @@
--- Laws about the limits, in the code's shape. They serve the proofs here.
-pub mod WeightLaws
