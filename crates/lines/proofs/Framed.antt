@@ -13,8 +13,7 @@ use lib.Dec.{ltb}
 use borrow.Author.Tests.{ltb-true, ltb-false}
 use Rattle.model.specs.Line.{read_line}
 use Rattle.lines.specs.Read.{line_at, as_line, byte_at}
-use Rattle.lines.specs.declared.read.Line.{Line}
-use Rattle.lines.specs.declared.read.Line.TheVariants.{Frame, Broken}
+use Rattle.std.specs.Prelude.{Option as Maybe, Some, None}
 use Rattle.lines.proofs.Digit.{byte_small, byte_drop}
 use Rattle.lines.proofs.Parsed.{parsed}
 
@@ -55,22 +54,22 @@ frame file at bytes rest e =
       small = bounded bytes (λ k l. rw (each k l) (byte_small file (at + 2 * k)));
     }
 
--- the answer `Frame end`
-pub line_frame : (r : Line) (file : List ℕ) (at end : ℕ) → r ≡ line_at file at → r ≡ Frame end → Framed file at end
+-- the answer `Some end`
+pub line_frame : (r : Maybe ℕ) (file : List ℕ) (at end : ℕ) → r ≡ line_at file at → r ≡ Some end → Framed file at end
 unfolding line_at as_line
 line_frame r file at end p q = go (read_line (drop at file)) refl (sym p ∙ q)
   where
-    go : (o : Option (List ℕ × List ℕ)) → read_line (drop at file) ≡ o → as_line at o ≡ Frame end → Framed file at end
+    go : (o : Option (List ℕ × List ℕ)) → read_line (drop at file) ≡ o → as_line at o ≡ Some end → Framed file at end
     go none e h = let z : ◌≡◌ {A = ℕ} 0 1 = cc in absurd (omega arith)
     go (some f) e h =
         let z : at + 2 * length f.0 ≡ end = cc in
         subst (Framed file at) z (frame file at f.0 f.1 e)
 
--- the answer `Broken`
-pub line_broken : (r : Line) (file : List ℕ) (at : ℕ) → r ≡ line_at file at → r ≡ Broken → read_line (drop at file) ≡ none
+-- the answer `None`
+pub line_broken : (r : Maybe ℕ) (file : List ℕ) (at : ℕ) → r ≡ line_at file at → r ≡ None → read_line (drop at file) ≡ none
 unfolding line_at as_line
 line_broken r file at p q = go (read_line (drop at file)) refl (sym p ∙ q)
   where
-    go : (o : Option (List ℕ × List ℕ)) → read_line (drop at file) ≡ o → as_line at o ≡ Broken → read_line (drop at file) ≡ none
+    go : (o : Option (List ℕ × List ℕ)) → read_line (drop at file) ≡ o → as_line at o ≡ None → read_line (drop at file) ≡ none
     go none e h = e
     go (some f) e h = let z : ◌≡◌ {A = ℕ} 0 1 = cc in absurd (omega arith)

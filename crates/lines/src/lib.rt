@@ -4,5 +4,5 @@
 mod read;
 mod write;
 
-pub use read::{Line, byte_at, line_at};
+pub use read::{byte_at, line_at};
 pub use write::{put_byte, put_end, put_four, put_two};

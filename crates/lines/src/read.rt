@@ -2,30 +2,17 @@
 ghost use Rattle.std.specs.Prelude.{◌≡◌, ◌+◌, ◌<◌, length};
 ghost use Rattle.lines.specs.Read.{line_at, byte_at, value, is_digit, digits_end, closes};
 
-// A whole line, by the place of its 0A; or a line without 0A, without digits, with an odd count, or with another byte.
-#[derive(Clone, Copy)]
-pub enum Line {
-    Frame(usize),
-    Broken,
-}
-
-// The line that starts at a place, judged in one pass over its digits.
-pub fn line_at(file: &[u8], at: usize) -> Line
+// The place of the 0A of the line that starts at a place, judged in one pass over its digits; nothing for a line without 0A, without
+// digits, with an odd count, or with another byte.
+pub fn line_at(file: &[u8], at: usize) -> Option<usize>
     ensures { result ≡ line_at file.now at }
 {
     let end = digits_end(file, at);
     let count = end - at;
-    if count < 1 {
-        return Line::Broken;
+    if count < 1 || count % 2 == 1 || !closes(file, end) {
+        return None;
     }
-    if count % 2 == 1 {
-        return Line::Broken;
-    }
-    if closes(file, end) {
-        Line::Frame(end)
-    } else {
-        Line::Broken
-    }
+    Some(end)
 }
 
 // The byte of the two digits at a place; another character counts as 0.
@@ -42,36 +29,26 @@ pub fn byte_at(file: &[u8], at: usize) -> u8
 fn digits_end(file: &[u8], at: usize) -> usize
     ensures { result ≡ digits_end file.now at }
 {
-    let mut i = at;
-    while i < file.len() {
-        let digit = is_digit(file[i]);
-        if !digit {
+    for i in at..file.len() {
+        if !is_digit(file[i]) {
             return i;
         }
-        i = i + 1;
     }
-    i
+    at.max(file.len())
 }
 
 // Whether a 0A stands at a place.
 fn closes(file: &[u8], at: usize) -> bool
     ensures { result ≡ closes file.now at }
 {
-    if file.len() <= at {
-        return false;
-    }
-    file[at] == 10
+    at < file.len() && file[at] == 10
 }
 
 // Whether a character is a digit: 0 to 9, A to F.
 fn is_digit(c: u8) -> bool
     ensures { result ≡ is_digit c }
 {
-    match c {
-        48..=57 => true,
-        65..=70 => true,
-        _ => false,
-    }
+    matches!(c, b'0'..=b'9' | b'A'..=b'F')
 }
 
 // The value of a digit; 0 for another character.
@@ -79,8 +56,8 @@ fn digit_value(c: u8) -> u8
     ensures { result ≡ value c }
 {
     match c {
-        48..=57 => c - 48,
-        65..=70 => c - 55,
+        b'0'..=b'9' => c - b'0',
+        b'A'..=b'F' => c - b'A' + 10,
         _ => 0,
     }
 }

@@ -8,9 +8,9 @@ pub returns-in-48-to-57 : goal.returns-in-48-to-57
 unfolding is_some
 returns-in-48-to-57 c = test_by _ (digit_number _ (omega arith) (omega arith))
 
-pub returns-in-65-to-70 : goal.returns-in-65-to-70
+pub returns-in-48-to-57-2 : goal.returns-in-48-to-57-2
 unfolding is_some
-returns-in-65-to-70 c = test_by _ (digit_letter _ (omega arith) (omega arith))
+returns-in-48-to-57-2 c = test_by _ (digit_letter _ (omega arith) (omega arith))
 
 pub returns-in_default : goal.returns-in_default
 unfolding is_some
