@@ -8,9 +8,9 @@ use delay_list::{Columns, list_columns};
 use model::Delay;
 
 // The columns of the first m delays.
-pub fn array_columns(delays: [Delay; 128], m: usize) -> Columns
+pub fn array_columns(delays: &[Delay; 128], m: usize) -> Columns
     requires { m ≤ 128 }
-    ensures { result ≡ columns_of (take m delays) }
+    ensures { result ≡ columns_of (take m delays.now) }
 {
     list_columns(&delays[..m])
 }

@@ -16,14 +16,13 @@ pub struct Columns {
 }
 
 // The parts of a delay, each stored in its column at place k.
-fn store(q: Delay, k: usize, from: &mut [u8; 128], to: &mut [u8; 128], weight: &mut [i16; 128])
+fn store(columns: &mut Columns, k: usize, q: Delay)
     requires { k < 128 }
-    ensures { (from.new ≡ set from.old k q.from) × ((to.new ≡ set to.old k q.to) × (weight.new ≡ set weight.old k q.weight)) }
+    ensures { columns.new ≡ record { from = set columns.old.from k q.from; to = set columns.old.to k q.to; weight = set columns.old.weight k q.weight } }
 {
-    from[k] = q.from;
-    to[k] = q.to;
-    let w = q.weight;
-    weight[k] = w;
+    columns.from[k] = q.from;
+    columns.to[k] = q.to;
+    columns.weight[k] = q.weight;
 }
 
 // The columns of a list.
@@ -31,26 +30,25 @@ pub fn list_columns(list: &[Delay]) -> Columns
     requires { length list.now ≤ 128 }
     ensures { result ≡ columns_of list.now }
 {
-    let mut from = [0u8; 128];
-    let mut to = [0u8; 128];
-    let mut weight = [0i16; 128];
-    let mut k: usize = 0;
-    while k < list.len() {
-        store(list[k], k, &mut from, &mut to, &mut weight);
-        k = k + 1;
+    let mut columns = Columns {
+        from: [0; 128],
+        to: [0; 128],
+        weight: [0; 128],
+    };
+    for (k, q) in list.iter().enumerate() {
+        store(&mut columns, k, *q);
     }
-    Columns { from, to, weight }
+    columns
 }
 
 // Delay k of a list, read out of its columns.
-pub fn delay_at(from: &[u8; 128], to: &[u8; 128], weight: &[i16; 128], k: usize) -> Delay
+pub fn delay_at(columns: &Columns, k: usize) -> Delay
     requires { k < 128 }
-    ensures { result ≡ delay_at (record { from = from.now; to = to.now; weight = weight.now }) k }
+    ensures { result ≡ delay_at columns.now k }
 {
-    let w = weight[k];
     Delay {
-        from: from[k],
-        to: to[k],
-        weight: w,
+        from: columns.from[k],
+        to: columns.to[k],
+        weight: columns.weight[k],
     }
 }

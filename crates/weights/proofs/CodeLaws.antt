@@ -75,11 +75,15 @@ pub lift_is : (w : ℤ) → SFits w16 w → Limited w → (nat_abs (to_z w16 (of
 lift_is w f h = rw (back16 w f h) (omega arith, omega (arith, coded_most w h))
 
 -- a weight that went by its bits
-pub told_limited : (w : ℤ) → SFits w16 w → Limited w → Limited (to_z w16 (of_z w16 w))
-told_limited w f h = rw (to_z-of_z w16 w f) h
+limited_fits : (w : ℤ) → Limited w → SFits w16 w
+limited_fits (pos k) h = let p : k ≤ 1000 = leb→le _ _ h.high.le in record { sfits = omega arith }
+limited_fits (negsuc k) h = let p : k ≤ 999 = leb→le _ _ h.low.le in record { sfits = omega arith }
 
-pub told_coded : (w : ℤ) (r : ℕ) → SFits w16 w → r ≡ coded (to_z w16 (of_z w16 w)) → r ≡ coded w
-told_coded w r f e = e ∙ ap coded (to_z-of_z w16 w f)
+pub told_limited : (w : ℤ) → Limited w → Limited (to_z w16 (of_z w16 w))
+told_limited w h = rw (to_z-of_z w16 w (limited_fits w h)) h
+
+pub told_coded : (w : ℤ) (r : ℕ) → Limited w → r ≡ coded (to_z w16 (of_z w16 w)) → r ≡ coded w
+told_coded w r h e = e ∙ ap coded (to_z-of_z w16 w (limited_fits w h))
 
 -- ---- clashes
 

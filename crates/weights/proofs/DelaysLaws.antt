@@ -1,6 +1,7 @@
 -- Reading a batch's delays: what a loop over them has tested, coded and copied, and the arrays after it.
-use mathlib.Core.Path.{◌≡◌, refl, ap, ◌∙◌}
-use mathlib.Core.Bool.{Bool, true, false, ◌&&◌, not}
+use mathlib.Core.Path.{◌≡◌, refl, ap, sym, ◌∙◌}
+use Rattle.std.specs.Prelude.{Some, None}
+use mathlib.Core.Bool.{Bool, true, false, ◌&&◌}
 use mathlib.Core.List.{List, map}
 use Prim.Native.Nat.{ℕ, ◌+◌, ◌≤◌, ◌<◌}
 use native.Mathlib.Nat.{min-le_left}
@@ -12,7 +13,7 @@ use Rattle.model.specs.declared.Batch.{Batch}
 use Rattle.model.specs.Common.{count, pad}
 use Rattle.model.specs.Batch.{delay_of, blank_delay}
 use Rattle.model.specs.Open.{jobs_ok, weight_ok}
-use Rattle.model.proofs.BoolLaws.{apart, both, passes, fails}
+use Rattle.model.proofs.BoolLaws.{both}
 use Rattle.model.proofs.AllLaws.{all_from, all_start, all_passed, all_failed, all_ended, all_both}
 use Rattle.model.proofs.LimitLaws.{weight_iff}
 use Rattle.delay_list.specs.declared.Columns.{Columns}
@@ -42,8 +43,8 @@ pub weight_limited : (q : Delay) → weight_ok q ≡ true → Limited q.weight
 weight_limited q e = let h = (weight_iff q).0 e in record { low = h.0; high = h.1 }
 
 -- a delay that passes has a weight with a code
-pub read_limited : (n : ℕ) (q : Delay) (x : Bool) → x ≡ (jobs_ok n q && weight_ok q) → not x ≡ false → Limited q.weight
-read_limited n q x test e = weight_limited q (both (jobs_ok n q) (weight_ok q) (passes test e)).1
+pub read_limited : (n : ℕ) (q : Delay) (x : Bool) → x ≡ (jobs_ok n q && weight_ok q) → x ≡ true → Limited q.weight
+read_limited n q x test e = weight_limited q (both (jobs_ok n q) (weight_ok q) (sym test ∙ e)).1
 
 -- delay k is read as q, and tested: x is the answer
 module _ (n : ℕ) (columns : Columns) (m : ℕ) (code : List ℕ) (k : ℕ) (at : ReadTo n columns m code k) (h : k < m) (q : Delay) (x : Bool) (read : q ≡ delay_at columns k) (test : x ≡ (jobs_ok n q && weight_ok q)) where
@@ -52,17 +53,17 @@ module _ (n : ℕ) (columns : Columns) (m : ℕ) (code : List ℕ) (k : ℕ) (at
   tested = rw read at test
 
   -- it passes, and is coded
-  pub read_more : not x ≡ false → (v : ℕ) → v ≡ coded q.weight → ReadTo n columns m (set code k v) (k + 1)
+  pub read_more : x ≡ true → (v : ℕ) → v ≡ coded q.weight → ReadTo n columns m (set code k v) (k + 1)
   read_more e v c =
       record {
         few = omega arith;
-        left = all_passed _ k m _ at.left h (passes tested e);
+        left = all_passed _ k m _ at.left h (sym tested ∙ e);
         codes = filled_more _ 128 k _ code at.codes (rw read at c);
       }
 
   -- it fails, and so do the delays
-  pub read_failed : not x ≡ true → false ≡ all_from (delay_test n columns) 0 m
-  read_failed e = all_failed _ k m _ at.left h (fails tested e)
+  pub read_failed : x ≡ false → false ≡ all_from (delay_test n columns) 0 m
+  read_failed e = all_failed _ k m _ at.left h (sym tested ∙ e)
 
 -- a list's column of numbers is the array that is filled with them
 column_filled : (part : Delay → ℕ) → 0 ≡ part blank_delay → (list : List Delay) (m : ℕ) → m ≤ 128 → pad 128 0 (map part (take m list)) ≡ filled (λ i. part (get_or list i blank_delay)) 128 m
@@ -80,13 +81,14 @@ module _ (b : Batch) (columns : Columns) (m : ℕ) (same : columns ≡ columns_o
 
   -- the loop has ended, or one delay has failed
   pub read_all : (code : List ℕ) (k : ℕ) → ReadTo b.n columns m code k → m ≤ k
-      → ReadsDelays b (record { passed = true; delays = record { from = columns.from; to = columns.to; code = code } })
+      → ReadsDelays b (Some (record { from = columns.from; to = columns.to; code = code }))
   unfolding delays_read delay_of columns_of blank_delay
   read_all code k at h =
       let s : k ≡ m = omega arith in
-      let c : code ≡ filled (λ i. coded (delay_of b i).weight) 128 m = rw (at.codes, s) (filled_cong _ _ 128 m (λ i p. ap (λ (q : Delay). coded q.weight) (batch_delay_at b columns m same i p))) in
-      record { told = all_ended _ k m _ at.left h ∙ delays_start; ready = λ _. rw (c, same, column_filled (λ q. q.from) refl b.delays m few, column_filled (λ q. q.to) refl b.delays m few, e) }
+      let c : code ≡ filled (λ i. coded (delay_of b i).weight) 128 m = rw (at.codes, s) (filled_cong _ _ 128 m (λ i p. ap (λ (q : Delay). coded q.weight) (batch_delay_at b columns m same i p))) in (
+        sym (all_ended _ k m _ at.left h ∙ delays_start),
+        rw (c, same, column_filled (λ q. q.from) refl b.delays m few, column_filled (λ q. q.to) refl b.delays m few, e),
+      )
 
-  pub read_not : (code : List ℕ) → false ≡ all_from (delay_test b.n columns) 0 m
-      → ReadsDelays b (record { passed = false; delays = record { from = columns.from; to = columns.to; code = code } })
-  read_not code f = record { told = f ∙ delays_start; ready = λ z. apart z }
+  pub read_not : false ≡ all_from (delay_test b.n columns) 0 m → ReadsDelays b None
+  read_not f = sym (f ∙ delays_start)

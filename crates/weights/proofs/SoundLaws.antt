@@ -1,6 +1,7 @@
 -- What the tests of a sound batch give a caller: the arrays that are read hold its delays.
 use mathlib.Core.Path.{◌≡◌, sym, ap, subst, ◌∙◌}
 use mathlib.Core.Bool.{Bool, true}
+use Rattle.std.specs.Prelude.{Option, Some, None}
 use mathlib.Core.List.{map}
 use Prim.Native.Nat.{ℕ, ◌≤◌, ◌<◌}
 use native.Mathlib.Omega.{arith}
@@ -14,7 +15,7 @@ use Rattle.model.proofs.ListLaws.{all_each, index_in}
 use Rattle.model.proofs.BoolLaws.{and}
 use Rattle.model.proofs.SeqLaws.{listed_at, listed_length}
 use Rattle.model.proofs.LimitLaws.{jobs_iff}
-use Rattle.weights.specs.declared.delays.Reading.{Reading}
+use Rattle.weights.specs.declared.Weights.{Weights}
 use Rattle.weights.specs.Code.{coded, Fits}
 use Rattle.weights.specs.Delays.{DelaysSound, delays_pass, delays_read, ReadsDelays}
 use Rattle.weights.specs.Holds.{Holds}
@@ -38,7 +39,7 @@ unfolding delays_of
 delays_at b k p = listed_at (delay_of b) blank_delay b.m k p
 
 -- the arrays that are read from a sound batch hold its delays
-pub holds_read : (b : Batch) → b.m ≤ 128 → all (jobs_ok b.n) (delays_of b) ≡ true → all weight_ok (delays_of b) ≡ true → Holds b.n (delays_of b) (delays_read b).from (delays_read b).to (delays_read b).code
+pub holds_read : (b : Batch) → b.m ≤ 128 → all (jobs_ok b.n) (delays_of b) ≡ true → all weight_ok (delays_of b) ≡ true → Holds b.n (delays_of b) (delays_read b)
 unfolding delays_of delays_read
 holds_read b few e g =
     record {
@@ -59,7 +60,12 @@ holds_read b few e g =
         let j = (jobs_iff b.n (delay_of b k)).0 (all_listed (jobs_ok b.n) (delay_of b) b.m e k p) in
         record { from = j.0; to = j.1; weight = weight_limited (delay_of b k) (all_listed weight_ok (delay_of b) b.m g k p) }
 
--- and they are what reading it gives
-pub sound_read : (b : Batch) → DelaysSound b → (r : Reading) → ReadsDelays b r → r.delays ≡ delays_read b
+-- each of them passes
+pub sound_pass : (b : Batch) → DelaysSound b → delays_pass b ≡ true
 unfolding delays_pass
-sound_read b ok r h = h.ready (h.told ∙ and ok.jobs ok.weights)
+sound_pass b ok = and ok.jobs ok.weights
+
+-- and they are what reading it gives
+pub sound_read : (b : Batch) → DelaysSound b → (r : Option (Weights 128)) → ReadsDelays b r → r ≡ Some (delays_read b)
+sound_read b ok (Some w) h = ap Some h.1
+sound_read b ok None h = cc (sound_pass b ok)

@@ -1,11 +1,10 @@
 -- A batch's delays as parallel arrays of 128 places.
-use Rattle.std.specs.Prelude.{◌≤◌, ◌≡◌, Bool, true, ◌&&◌}
+use Rattle.std.specs.Prelude.{◌≤◌, ◌≡◌, Bool, true, false, ◌&&◌, Option, Some, None}
 use Rattle.model.specs.declared.Batch.{Batch}
 use Rattle.model.specs.Common.{all}
 use Rattle.model.specs.Batch.{delay_of, delays_of}
 use Rattle.model.specs.Open.{jobs_ok, weight_ok}
-use Rattle.weights.specs.declared.delays.Delays.{Delays}
-use Rattle.weights.specs.declared.delays.Reading.{Reading}
+use Rattle.weights.specs.declared.Weights.{Weights}
 use Rattle.weights.specs.Code.{coded}
 use Rattle.times.specs.Fill.{filled}
 
@@ -18,7 +17,7 @@ pub record DelaysSound (b : Batch) : Type 0 where
   pub weights : all weight_ok (delays_of b) ≡ true
 
 -- what the first m delays say, and 0 past them
-unfoldable pub delays_read : Batch → Delays
+unfoldable pub delays_read : Batch → Weights 128
 delays_read b =
     record {
       from = filled (λ k. (delay_of b k).from) 128 b.m;
@@ -30,7 +29,7 @@ delays_read b =
 unfoldable pub delays_pass : Batch → Bool
 delays_pass b = all (jobs_ok b.n) (delays_of b) && all weight_ok (delays_of b)
 
--- whether each delay passes, and what they say if each does
-pub record ReadsDelays (b : Batch) (r : Reading) : Type 0 where
-  pub told : r.passed ≡ delays_pass b
-  pub ready : r.passed ≡ true → r.delays ≡ delays_read b
+-- what reading the delays gives: what they say where each passes, and nothing where one does not
+abbrev pub ReadsDelays : Batch → Option (Weights 128) → Type 0
+ReadsDelays b (Some w) = (delays_pass b ≡ true) × (w ≡ delays_read b)
+ReadsDelays b None = delays_pass b ≡ false

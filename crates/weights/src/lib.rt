@@ -3,3 +3,11 @@
 
 pub mod delays;
 pub mod turn;
+
+// Inequalities as plain parallel arrays, N places: from, to, and 1,000 less the weight. How many of them count, their user knows.
+#[derive(Clone, Copy)]
+pub struct Weights<const N: usize> {
+    pub from: [u8; N],
+    pub to: [u8; N],
+    pub code: [u16; N],
+}

@@ -3,6 +3,8 @@ ghost use Rattle.std.specs.Prelude.{◌≡◌, ◌<◌, set};
 ghost use Rattle.clashes.specs.First.{Named};
 ghost use Rattle.weights.specs.Turn.{turn_from, turn_to, turn_code};
 
+use crate::Weights;
+
 // A job's number, which has one byte.
 fn job(x: u16) -> u8
     requires { x < 24 }
@@ -13,27 +15,20 @@ fn job(x: u16) -> u8
 
 // The inequality of a turn on the clash with this code, stored at place k: t_j − t_i ≥ d + 1 on side 0, t_i − t_j ≥ 1 − d on side 1. The code's
 // last part is d + 22, and a weight's code is 1,000 less it: that of d + 1 is 1021 − (d + 22), and that of 1 − d is d + 22 + 977.
-pub fn store_turn(
-    from: &mut [u8; 1024],
-    to: &mut [u8; 1024],
-    code: &mut [u16; 1024],
-    k: usize,
-    clash: u16,
-    turn: u16,
-)
+pub fn store_turn(steps: &mut Weights<1024>, k: usize, clash: u16, turn: u16)
     requires { (k < 1024) × Named clash }
-    ensures { (from.new ≡ set from.old k (turn_from clash turn)) × ((to.new ≡ set to.old k (turn_to clash turn)) × (code.new ≡ set code.old k (turn_code clash turn))) }
+    ensures { steps.new ≡ record { from = set steps.old.from k (turn_from clash turn); to = set steps.old.to k (turn_to clash turn); code = set steps.old.code k (turn_code clash turn) } }
 {
     let i = job(clash / 2048);
     let j = job(clash / 64 % 32);
     let lifted = clash % 64;
     if turn % 2 == 0 {
-        from[k] = i;
-        to[k] = j;
-        code[k] = 1021 - lifted;
+        steps.from[k] = i;
+        steps.to[k] = j;
+        steps.code[k] = 1021 - lifted;
     } else {
-        from[k] = j;
-        to[k] = i;
-        code[k] = lifted + 977;
+        steps.from[k] = j;
+        steps.to[k] = i;
+        steps.code[k] = lifted + 977;
     }
 }

@@ -9,18 +9,18 @@ loop-k-init c = read_none _ _ _
 
 -- delay k fails
 pub returns-then-not-delay_ok : goal.returns-then-not-delay_ok
-returns-then-not-delay_ok c = read_not _ _ _ c.array_columns-columns.ensures c.wide-m.ensures.0 (search rules) _
-    (read_failed _ _ _ _ _ c.loop-k.invariant c.loop-k-test.true _ _ c.delay_at-q.ensures c.delay_ok.ensures c.if-not-delay_ok.true-raw)
+returns-then-not-delay_ok c = read_not _ _ _ c.array_columns-columns.ensures c.from-m.ensures (search rules)
+    (read_failed _ _ _ _ _ c.loop-k.invariant c.loop-k-test.true _ _ c.delay_at-q.ensures c.delay_ok.ensures c.if-not-delay_ok.true)
 
 -- its weight has a code
 pub code_of-requires : goal.code_of-requires
-code_of-requires c = told_limited _ (record { sfits = c.struct_told-1.given.1.1.0.1 }) (read_limited _ _ _ c.delay_ok.ensures c.if-not-delay_ok.false-raw)
+code_of-requires c = told_limited _ (read_limited _ _ _ c.delay_ok.ensures c.if-not-delay_ok.false)
 
 -- delay k passes
 pub loop-k-preserved : goal.loop-k-preserved
-loop-k-preserved c = read_more _ _ _ _ _ c.loop-k.invariant c.loop-k-test.true _ _ c.delay_at-q.ensures c.delay_ok.ensures c.if-not-delay_ok.false-raw _
-    (told_coded _ _ (record { sfits = c.struct_told-1.given.1.1.0.1 }) c.code_of.ensures)
+loop-k-preserved c = read_more _ _ _ _ _ c.loop-k.invariant c.loop-k-test.true _ _ c.delay_at-q.ensures c.delay_ok.ensures c.if-not-delay_ok.false _
+    (told_coded _ _ (read_limited _ _ _ c.delay_ok.ensures c.if-not-delay_ok.false) c.code_of.ensures)
 
 -- all have passed
 pub returns : goal.returns
-returns c = read_all _ _ _ c.array_columns-columns.ensures c.wide-m.ensures.0 (search rules) _ _ c.loop-k.invariant c.loop-k-test.false
+returns c = read_all _ _ _ c.array_columns-columns.ensures c.from-m.ensures (search rules) _ _ c.loop-k.invariant c.loop-k-test.false
