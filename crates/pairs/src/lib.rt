@@ -3,4 +3,4 @@
 
 mod pairs;
 
-pub use pairs::{find_pairs, unmet};
+pub use pairs::{Pairs, find_pairs, unmet};

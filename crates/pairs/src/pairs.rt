@@ -3,81 +3,69 @@ ghost use Rattle.std.specs.Prelude.{◌≡◌, ◌≤◌};
 ghost use Rattle.clashes.specs.First.{Known, Near};
 ghost use Rattle.pairs.specs.Pairs.{bit_of, Room, OfJobs, Paired, NoneMet};
 
-use model::wide16;
+// The first `count` places have a pair each: pair[q] is its jobs, as i * 32 + j, held[q] the bits of its distances, and end[q] the number of the codes
+// up to its last.
+#[derive(Clone, Copy)]
+pub struct Pairs {
+    pub pair: [u16; 276],
+    pub held: [u64; 276],
+    pub end: [u16; 276],
+    pub count: usize,
+}
 
 // later - earlier where that is 0 to 63, and else 0, a bit that no pair has.
 fn bit_of(later: usize, earlier: usize) -> usize
     ensures { result ≡ bit_of later earlier }
 {
-    if later < earlier {
-        return 0;
-    }
-    let apart = later - earlier;
-    if 63 < apart {
-        return 0;
-    }
-    apart
+    let apart = later.saturating_sub(earlier);
+    if 63 < apart { 0 } else { apart }
 }
 
-// The pairs of the first count codes, each with the bits of its distances and the number of the codes up to its last, and how many there are.
-// Codes past 276 pairs, which 24 jobs do not have, are left out; no answer rests on that.
-pub fn find_pairs(
-    codes: &[u16; 1024],
-    count: usize,
-    pair: &mut [u16; 276],
-    held: &mut [u64; 276],
-    end: &mut [u16; 276],
-) -> usize
+// The pairs of the first count codes. Codes past 276 pairs, which 24 jobs do not have, are left out; no answer rests on that.
+pub fn find_pairs(codes: &[u16; 1024], count: usize, pairs: &mut Pairs)
     requires count_bound { count ≤ 1024 }
     requires known { Known codes.now count }
     requires near { Near codes.now count }
-    requires room { Room pair.old held.old end.old }
-    ensures { Paired codes.now pair.new held.new end.new result count }
+    requires room { Room pairs.old }
+    ensures { Paired codes.now pairs.new count }
 {
-    let mut pairs: usize = 0;
+    pairs.count = 0;
     let mut last: u16 = 65535;
     let mut bits: u64 = 0;
-    let mut k: usize = 0;
-    while k < count {
+    for k in 0..count {
         let code = codes[k];
         if code / 64 != last {
-            if pairs == 276 {
-                return pairs;
+            if pairs.count == 276 {
+                return;
             }
             last = code / 64;
-            pair[pairs] = last;
+            pairs.pair[pairs.count] = last;
             bits = 0;
-            pairs = pairs + 1;
+            pairs.count += 1;
         }
-        bits = bits | (2u64 << ((code % 64) as u64));
-        held[pairs - 1] = bits;
-        k = k + 1;
-        end[pairs - 1] = k as u16;
+        bits |= 2u64 << (code % 64);
+        let at = pairs.count - 1;
+        pairs.held[at] = bits;
+        pairs.end[at] = (k + 1) as u16;
     }
-    pairs
 }
 
 // A number of codes from the first on that the starts do not meet: those before the first pair that has the bit of its starts.
-pub fn unmet(
-    pair: &[u16; 276],
-    held: &[u64; 276],
-    end: &[u16; 276],
-    pairs: usize,
-    starts: &[u16; 24],
-) -> usize
-    requires { OfJobs pair.now pairs }
-    ensures { NoneMet pair.now held.now end.now pairs starts.now result }
+pub fn unmet(pairs: &Pairs, starts: &[u16; 24]) -> usize
+    requires { OfJobs pairs.now }
+    ensures { NoneMet pairs.now starts.now result }
 {
     let mut low: usize = 0;
-    let mut q: usize = 0;
-    while q < pairs {
-        let x = wide16(pair[q]);
-        let at = bit_of(wide16(starts[x % 32]) + 23, wide16(starts[x / 32]));
-        if (held[q] >> (at as u64)) % 2 == 1 {
+    for q in 0..pairs.count {
+        let x = usize::from(pairs.pair[q]);
+        let at = bit_of(
+            usize::from(starts[x % 32]) + 23,
+            usize::from(starts[x / 32]),
+        );
+        if (pairs.held[q] >> at) % 2 == 1 {
             return low;
         }
-        low = wide16(end[q]);
-        q = q + 1;
+        low = usize::from(pairs.end[q]);
     }
     low
 }

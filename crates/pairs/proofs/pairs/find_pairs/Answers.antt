@@ -6,24 +6,23 @@ use Rattle.pairs.proofs.pairs.find_pairs.Goals as goal
 use Rattle.pairs.proofs.pairs.find_pairs.Goals.{then-code-last+else-pairs-eq276, else-code-last}
 
 pub loop-k-init : goal.loop-k-init
-loop-k-init c = (search rules, pairing_none _ _ _ _ c.requires.room)
+loop-k-init c = pairing_none _ _ c.requires.room
 
 -- no place is left
 pub returns-then-pairs-eq276 : goal.returns-then-pairs-eq276
-returns-then-pairs-eq276 c = let l = c.loop-k in
-    paired_end _ _ _ _ _ _ _ _ _ l.invariant.1 l.invariant.0 (λ h. search rules)
+returns-then-pairs-eq276 c = paired_end _ _ _ _ _ _ c.loop-k.invariant (search rules) (λ h. search rules)
 
 -- one code more: where the branches meet, code k is of the last pair
 pub loop-k-preserved : goal.loop-k-preserved
 loop-k-preserved c =
-    let g = c.loop-k.invariant.1 in
+    let g = c.loop-k.invariant in
     let j = c.requires.known.each c.loop-k.k (search rules) in
-    let opened : Opened c.args.codes.now c.if-code-last.pair c.loop-k.held c.loop-k.end c.if-code-last.pairs c.if-code-last.last c.if-code-last.bits c.loop-k.k =
+    let opened : Opened c.args.codes.now c.if-code-last.pairs c.if-code-last.last c.if-code-last.bits c.loop-k.k =
     elim c.if-code-last.branch [
-      | then-code-last+else-pairs-eq276 w ↦ open_new _ _ _ _ _ _ _ _ g j w.if-pairs-eq276.false w.pair-is w.pairs-is w.last-is w.bits-is
-      | else-code-last w ↦ open_same _ _ _ _ _ _ _ _ g j w.if-code-last.false w.pair-is w.pairs-is w.last-is w.bits-is
+      | then-code-last+else-pairs-eq276 w ↦ open_new _ _ _ _ _ g j w.if-pairs-eq276.false w.pairs-is w.last-is w.bits-is
+      | else-code-last w ↦ open_same _ _ _ _ _ g j w.if-code-last.false w.pairs-is w.last-is w.bits-is
     ] in
-    (search rules, stored _ _ _ _ _ _ _ _ _ opened (c.requires.near.each _ (search rules)) refl)
+    stored _ _ _ _ _ _ opened (c.requires.near.each _ (search rules)) refl
 
 pub returns : goal.returns
-returns c = let l = c.loop-k in paired_end _ _ _ _ _ _ _ _ _ l.invariant.1 l.invariant.0 (λ h. search rules)
+returns c = paired_end _ _ _ _ _ _ c.loop-k.invariant (search rules) (λ h. search rules)
