@@ -5,7 +5,6 @@ ghost use Rattle.model.specs.Format.{header_line, delay_line};
 ghost use Rattle.lines.specs.Write.{overwritten};
 ghost use Rattle.frame_put.specs.Lines.{head_line, start_line, no_plan_line};
 
-use crate::number::encode;
 use model::Delay;
 
 // Two bytes, with which most lines open.
@@ -27,15 +26,14 @@ pub fn put_header(buffer: &mut [u8], at: usize, edition: u8, n: u8, m: u8) -> us
     lines::put_end(buffer, end)
 }
 
-// A delay.
+// A delay, its weight in two's complement.
 pub fn put_delay(buffer: &mut [u8], at: usize, delay: Delay) -> usize
     requires { at + 11 ≤ length buffer.old }
     ensures { (result ≡ at + 11) × (buffer.new ≡ overwritten buffer.old at (delay_line delay)) }
 {
-    let weight = encode(delay.weight);
     let to = put_pair(buffer, at, 0xA2, delay.from);
     let number = lines::put_byte(buffer, to, delay.to);
-    let end = lines::put_two(buffer, number, weight);
+    let end = lines::put_two(buffer, number, delay.weight.cast_unsigned());
     lines::put_end(buffer, end)
 }
 

@@ -7,7 +7,7 @@ ghost use Rattle.model.specs.Format.{masks_of, job_line};
 ghost use Rattle.lines.specs.Write.{overwritten};
 
 use crate::frame::put_pair;
-use model::{Job, wide16};
+use model::Job;
 
 pub fn put_job(buffer: &mut [u8], at: usize, job: Job) -> usize
     requires { (job.ticks ≤ most_ticks) × (at + (4 * job.ticks + 5) ≤ length buffer.old) }
@@ -23,12 +23,10 @@ fn put_masks(buffer: &mut [u8], at: usize, job: Job) -> usize
     requires { (job.ticks ≤ most_ticks) × (at + 4 * job.ticks ≤ length buffer.old) }
     ensures { (result ≡ at + 4 * job.ticks) × (buffer.new ≡ overwritten buffer.old at (digits_of (joined two (masks_of job)))) }
 {
-    let ticks = wide16(job.ticks);
+    let ticks = usize::from(job.ticks);
     let mut next = at;
-    let mut a: usize = 0;
-    while a < ticks {
-        next = lines::put_two(buffer, next, job.masks[a]);
-        a = a + 1;
+    for mask in &job.masks[..ticks] {
+        next = lines::put_two(buffer, next, *mask);
     }
     next
 }

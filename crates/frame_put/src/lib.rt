@@ -3,7 +3,6 @@
 
 mod frame;
 mod job;
-mod number;
 mod rest;
 mod window;
 

@@ -1,18 +1,15 @@
--- `put_delay` puts the parts of its line one behind the other, the weight as `encode` gives it.
-use mathlib.Core.Path.{ap, ◌∙◌}
+-- `put_delay` puts the parts of its line one behind the other, the weight's bits as a number.
 use native.Mathlib.Omega.{arith}
 use borrow.Author.Rules.{rules}
-use mir.Syntax.{w16}
-use mir.ValLaws.{to_z-of_z}
 use Rattle.model.specs.Line.{two}
-use Rattle.model.specs.Format.{unsigned, delay_line}
+use Rattle.model.specs.Format.{delay_line}
 use Rattle.lines.proofs.Puts.{put_digits, put_line}
+use Rattle.frame_put.proofs.Weight.{weight_bits}
 use Rattle.frame_put.proofs.frame.put_delay.Goals as goal
 
 pub returns : goal.returns
 unfolding delay_line two
-returns c = let delay = c.args.delay in
-    let weight = c.encode-weight.ensures ∙ ap unsigned (to_z-of_z w16 delay.weight (search rules)) in
+returns c = let weight = weight_bits c.args.delay.weight c.cast_unsigned.result (search rules) c.cast_unsigned.ensures in
     let first = c.put_pair-to.ensures in
     let second = c.put_byte-number.ensures in
     let third = c.put_two-end.ensures in
