@@ -1,25 +1,36 @@
--- A loop that counts the bytes of pieces, at most c a piece: after k turns it has counted the first k of them.
-use Prim.Native.Nat.{ℕ, ◌+◌, ◌*◌, ◌≤◌}
-use mathlib.Core.Path.{◌≡◌, refl, ap, sym, ◌∙◌}
-use mathlib.Core.List.{List}
+-- Pieces of c bytes or of none, one for each item of a list: together they have c bytes for each item that has a piece.
+use Rattle.std.specs.Prelude.{if◌then◌else◌}
+use Prim.Native.Nat.{ℕ, suc, ◌+◌, ◌*◌, ◌<◌}
+use mathlib.Core.Path.{◌≡◌, ap, sym, ◌∙◌}
+use mathlib.Core.Bool.{Bool, true, false}
+use mathlib.Core.List.{List, [], ◌∷◌}
+use native.Mathlib.Nat.{add-zero}
 use native.Mathlib.Omega.{arith}
-use lib.ListN.{length}
+use lib.ListN.{length, get_or, length-append}
+use Rattle.std.specs.List.{count_by}
+use Rattle.std.proofs.lemmas.List.Sums.{sum_by-cons}
 use Rattle.model.specs.Common.{count, joined}
-use Rattle.frame_put.proofs.Pieces.{pieces, pieces_length}
+use Rattle.frame_put.proofs.Pieces.{pieces}
 
-pub record Sized (f : ℕ → List ℕ) (c k size : ℕ) : Type 0 where
-  pub is : size ≡ length (pieces f k)
-  pub most : size ≤ c * k
+module _ {A : Type 0} (has : A → Bool) (f : ℕ → List ℕ) (c : ℕ) (d : A) where
+  -- from a on, each piece goes by its item
+  Each : ℕ → List A → Type 0
+  Each a xs = (i : ℕ) → i < length xs → length (f (a + i)) ≡ (if has (get_or xs i d) then c else 0)
 
--- before the first
-pub sized_none : (f : ℕ → List ℕ) (c : ℕ) → Sized f c 0 0
-unfolding pieces joined count
-sized_none f c = record { is = refl; most = omega arith }
+  step : (t : Bool) (m n k : ℕ) → m ≡ (if t then c else 0) → n ≡ c * k → m + n ≡ c * ((if t then 1 else 0) + k)
+  step true m n k p q = omega arith
+  step false m n k p q = omega arith
 
--- one turn more
-pub sized_more : (f : ℕ → List ℕ) (c : ℕ) {k size add : ℕ} → Sized f c k size → add ≡ length (f k) → add ≤ c → Sized f c (k + 1) (size + add)
-sized_more f c {k} s e l = record { is = omega (arith, s.is, pieces_length f k); most = omega (arith, s.most) }
+  go : (a : ℕ) (xs : List A) → Each a xs → length (joined f (count a (length xs))) ≡ c * count_by has xs
+  unfolding joined count Each
+  go a [] h = omega arith
+  go a (x ∷ xs) h =
+      let here : length (f a) ≡ (if has x then c else 0) = ap (λ (n : ℕ). length (f n)) (sym (add-zero a)) ∙ h 0 (omega arith) in
+      let rest = go (suc a) xs (λ i l. let e : suc a + i ≡ a + suc i = omega arith in ap (λ (n : ℕ). length (f n)) e ∙ h (suc i) (omega arith)) in
+      length-append (f a) (joined f (count (suc a) (length xs)))
+      ∙ step (has x) _ _ _ here rest
+      ∙ ap (λ (k : ℕ). c * k) (sym (sum_by-cons (λ y. if has y then 1 else 0) x xs))
 
--- after the last
-pub sized_all : (f : ℕ → List ℕ) (c n : ℕ) (text : List ℕ) {k size : ℕ} → Sized f c k size → k ≡ n → text ≡ pieces f n → (size ≡ length text) × (size ≤ c * n)
-sized_all f c n text {k} s h e = (s.is ∙ ap length (ap (pieces f) h ∙ sym e), omega (arith, s.most, ap (λ (i : ℕ). c * i) h))
+  pub counted : (xs : List A) → ((i : ℕ) → i < length xs → length (f i) ≡ (if has (get_or xs i d) then c else 0)) → length (pieces f (length xs)) ≡ c * count_by has xs
+  unfolding pieces Each
+  counted xs h = go 0 xs (λ i l. let e : 0 + i ≡ i = omega arith in ap (λ (n : ℕ). length (f n)) e ∙ h i l)

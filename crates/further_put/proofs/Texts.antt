@@ -1,10 +1,15 @@
 -- The further lines as the pieces that the loops put: what both kinds have in common, the window lines, and the rest lines.
 use Rattle.std.specs.Prelude.{if◌then◌else◌}
-use Prim.Native.Nat.{ℕ}
+use Prim.Native.Nat.{ℕ, ◌*◌, ◌<◌, ◌≤◌}
 use mathlib.Core.Path.{◌≡◌, refl, ap, sym, ◌∙◌}
 use mathlib.Core.Bool.{Bool, true, false, not}
 use mathlib.Core.List.{List, [], ◌∷◌, ◌++◌, map}
-use lib.ListN.{length, get_or}
+use native.Mathlib.Omega.{arith}
+use lib.ListN.{length, take, get_or}
+use lib.Seq.{length-take-le}
+use Rattle.std.specs.List.{count_by}
+use Rattle.std.proofs.lemmas.List.{get_or-take}
+use Rattle.std.proofs.lemmas.List.Sums.{count_by-le-length}
 use lib.Dec.{eqb}
 use borrow.Author.Tests.{eq-eqb, ne_eqb}
 use Rattle.model.specs.declared.Batch.{Batch}
@@ -19,9 +24,10 @@ use Rattle.frame_put.specs.Window.{window_as}
 use Rattle.frame_put.specs.Rest.{rest_as}
 use Rattle.frame_put.proofs.Pieces.{pieces}
 use Rattle.frame_put.proofs.Lengths.{window_length, rest_length}
-use Rattle.further_put.specs.Lined.{line_if, size_if}
+use Rattle.further_put.specs.Lined.{line_if}
 use Rattle.further_put.specs.Windows.{window_piece}
 use Rattle.further_put.specs.Rests.{rest_piece}
+use Rattle.further_put.proofs.Sizes.{counted}
 
 -- ---- lines that stand only where a number is not 0
 
@@ -49,12 +55,12 @@ unfolding line_if
 line_none number line h = rw (eq-eqb number 0 h)
 
 -- its bytes
-pub line_size : (number size : ℕ) (line : List ℕ) → length line ≡ size → size_if number size ≡ length (line_if number line)
-unfolding line_if size_if
+pub line_size : (number size : ℕ) (line : List ℕ) → length line ≡ size → length (line_if number line) ≡ (if not (eqb number 0) then size else 0)
+unfolding line_if
 line_size number size line e = go (not (eqb number 0))
   where
-    go : (t : Bool) → (if t then size else 0) ≡ length (if t then line else [])
-    go true = sym e
+    go : (t : Bool) → length (if t then line else []) ≡ (if t then size else 0)
+    go true = e
     go false = refl
 
 -- ---- windows
@@ -74,9 +80,26 @@ pub read_window_lem : (b : Batch) (i : ℕ) → window_piece i (read_window b i)
 unfolding window_of blank_window window_piece line_if
 read_window_lem b i = get_d_default (window_piece i) b.windows i (record { lined = 0; earliest = 0; latest = 0 }) blank_window refl
 
-pub window_size : (b : Batch) (i : ℕ) → size_if (read_window b i).lined 13 ≡ length (line_piece b i)
+abbrev pub has_line : Window → Bool
+has_line w = not (eqb w.lined 0)
+
+-- those of the first n that have one count for 13 bytes each
+pub windows_size : (b : Batch) → b.n ≤ length b.windows → 13 * count_by has_line (take b.n b.windows) ≡ length (joined window_text (window_lines b))
 unfolding window_piece
-window_size b i = line_size (read_window b i).lined 13 (window_as i (read_window b i)) (window_length i (read_window b i)) ∙ ap length (read_window_lem b i)
+windows_size b short =
+    let size = length-take-le b.n b.windows short in
+    let blank : Window = record { lined = 0; earliest = 0; latest = 0 } in
+    let each = λ (i : ℕ) (l : i < length (take b.n b.windows)).
+    let less : i < b.n = omega (arith, size) in
+    ap length (sym (read_window_lem b i))
+    ∙ line_size (read_window b i).lined 13 (window_as i (read_window b i)) (window_length i (read_window b i))
+    ∙ ap (λ (w : Window). if has_line w then 13 else 0) (sym (get_or-take b.n b.windows i blank less)) in
+    sym (counted has_line (line_piece b) 13 blank (take b.n b.windows) each)
+    ∙ ap (λ (k : ℕ). length (pieces (line_piece b) k)) size
+    ∙ ap length (sym (windows_text b))
+
+pub windows_most : (b : Batch) → b.n ≤ length b.windows → count_by has_line (take b.n b.windows) ≤ b.n
+windows_most b short = omega (arith, count_by-le-length has_line (take b.n b.windows), length-take-le b.n b.windows short)
 
 -- ---- rests, whose lines stand in an array of numbers
 
@@ -87,6 +110,17 @@ pub rests_text : (b : Batch) → joined rest_text (rest_lines b) ≡ pieces (sta
 unfolding rest_lines rest_line rested rest_of rest_piece rest_as line_if
 rests_text b = kept_text rest_text (rest_line b) (rested b) stations
 
-pub rest_size : (rests : List ℕ) (s : ℕ) → size_if (get_or rests s 0) 7 ≡ length (station_piece rests s)
+abbrev pub has_rest : ℕ → Bool
+has_rest ticks = not (eqb ticks 0)
+
+-- the stations that rest count for 7 bytes each
+pub rests_size : (b : Batch) → length b.rests ≡ stations → 7 * count_by has_rest b.rests ≡ length (joined rest_text (rest_lines b))
 unfolding rest_piece
-rest_size rests s = line_size (get_or rests s 0) 7 (rest_as s (get_or rests s 0)) (rest_length s (get_or rests s 0))
+rests_size b all =
+    let each = λ (s : ℕ) (l : s < length b.rests). line_size (get_or b.rests s 0) 7 (rest_as s (get_or b.rests s 0)) (rest_length s (get_or b.rests s 0)) in
+    sym (counted has_rest (station_piece b.rests) 7 0 b.rests each)
+    ∙ ap (λ (k : ℕ). length (pieces (station_piece b.rests) k)) all
+    ∙ ap length (sym (rests_text b))
+
+pub rests_most : (b : Batch) → length b.rests ≡ stations → count_by has_rest b.rests ≤ stations
+rests_most b all = omega (arith, all, count_by-le-length has_rest b.rests)

@@ -1,7 +1,6 @@
 // The further lines of edition 02, put one behind the other, kind by kind, and how long they are.
 #![tactic(auto)]
 
-mod lined;
 mod rests;
 mod windows;
 

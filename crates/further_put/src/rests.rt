@@ -1,24 +1,21 @@
-// The rest lines of a batch, one for each station that rests, stations in rising order.
-ghost use Rattle.std.specs.Prelude.{◌≡◌, ◌+◌, ◌≤◌, length};
+// The rest lines of a batch, one for each station that rests, stations in rising order. The window lines go the same way, but over other items and by
+// another line: one function for both would take the line as a closure that writes, which is no plainer than its loop of three lines.
+ghost use Rattle.std.specs.Prelude.{◌≡◌, ◌==◌, not, ◌+◌, ◌≤◌, length, count_by};
 ghost use Rattle.model.specs.Common.{joined};
 ghost use Rattle.model.specs.Rest.{rest_text, rest_lines};
 ghost use Rattle.lines.specs.Write.{overwritten};
 ghost use Rattle.further_put.specs.Rests.{rest_piece};
 
-use crate::lined::lined_size;
 use frame_put::put_rest;
-use model::{Batch, wide};
+use model::Batch;
 
 pub fn put_rests(buffer: &mut [u8], at: usize, batch: Batch) -> usize
     requires { at + length (joined rest_text (rest_lines batch)) ≤ length buffer.old }
     ensures { (result ≡ at + length (joined rest_text (rest_lines batch))) × (buffer.new ≡ overwritten buffer.old at (joined rest_text (rest_lines batch))) }
 {
-    let rests = batch.rests;
     let mut next = at;
-    let mut s: usize = 0;
-    while s < 16 {
-        next = put_rested(buffer, next, s as u8, rests[s]);
-        s = s + 1;
+    for (s, ticks) in batch.rests.iter().enumerate() {
+        next = put_rested(buffer, next, s as u8, *ticks);
     }
     next
 }
@@ -27,14 +24,14 @@ pub fn put_rests(buffer: &mut [u8], at: usize, batch: Batch) -> usize
 pub fn rests_length(batch: Batch) -> usize
     ensures { (result ≡ length (joined rest_text (rest_lines batch))) × (result ≤ 112) }
 {
-    let rests = batch.rests;
-    let mut size: usize = 0;
-    let mut s: usize = 0;
-    while s < 16 {
-        size = size + lined_size(wide(rests[s]), 7);
-        s = s + 1;
-    }
-    size
+    7 * resting(&batch.rests)
+}
+
+// How many stations rest.
+fn resting(rests: &[u8; 16]) -> usize
+    ensures { result ≡ count_by (λ ticks. not (ticks == 0)) rests.now }
+{
+    rests.iter().filter(|ticks| **ticks != 0).count()
 }
 
 // A station's line if it rests.

@@ -1,11 +1,7 @@
 -- Each turn of `put_windows` puts one job's line, or nothing, behind the lines before it.
-use Prim.Native.Nat.{◌≤◌, ◌-◌}
 use Rattle.frame_put.proofs.Pieces.{Filled}
 use Rattle.further_put.proofs.Texts.{line_piece}
 use Rattle.further_put.proofs.windows.put_windows.Given as goal
 
 abbrev pub invariant-loop-i : goal.invariant-loop-i
-invariant-loop-i l = (l.i ≤ l.n) × Filled (line_piece l.batch) l.initial.buffer l.at l.i l.next l.buffer
-
-abbrev pub decreases-loop-i : goal.decreases-loop-i
-decreases-loop-i l = l.n - l.i
+invariant-loop-i l = Filled (line_piece l.fn.batch) l.initial.buffer l.at l.i l.next l.buffer

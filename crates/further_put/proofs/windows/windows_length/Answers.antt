@@ -1,26 +1,21 @@
--- Each turn of `windows_length` adds the length of one job's line, or nothing.
-use Prim.Native.Nat.{ℕ}
+-- `windows_length` has 13 bytes for each of the n places that has a line.
 use mathlib.Core.Path.{◌≡◌, ap, ◌∙◌}
+use Prim.Native.Nat.{ℕ, ◌*◌}
 use native.Mathlib.Omega.{arith}
-use borrow.Author.Rules.{rules}
-use Rattle.further_put.specs.Lined.{size_if}
-use Rattle.further_put.proofs.Sizes.{sized_none, sized_more, sized_all}
-use Rattle.further_put.proofs.Texts.{windows_text, window_size}
+use lib.ListN.{length, take}
+use Rattle.std.specs.List.{count_by}
+use Rattle.further_put.proofs.Texts.{has_line, windows_size, windows_most}
 use Rattle.further_put.proofs.windows.windows_length.Goals as goal
 
-pub loop-i-init : goal.loop-i-init
-loop-i-init c = (search rules, sized_none _ 13)
-
-pub overflow_add-size : goal.overflow_add-size
-overflow_add-size c = omega (arith, c.loop-i.invariant.1.most, c.lined_size-size.ensures.1)
-
-pub loop-i-preserved : goal.loop-i-preserved
-loop-i-preserved c = let batch = c.args.batch in
-    let i = c.loop-i.i in
-    let size = c.lined_size-size.ensures.0 ∙ ap (λ (x : ℕ). size_if x 13) c.wide16.ensures.0 ∙ window_size batch i in
-    (search rules, sized_more _ 13 c.loop-i.invariant.1 size c.lined_size-size.ensures.1)
+pub overflow_mul-result : goal.overflow_mul-result
+overflow_mul-result c = let batch = c.args.batch in
+    let all : length batch.windows ≡ 24 = c.well_formed.0.1.1.1.1.1.1.1.0.1.0.1 in
+    let count : c.lined.result ≡ count_by has_line (take batch.n batch.windows) = rw c.from-n.ensures at c.lined.ensures in
+    record { fits = omega (arith, count, windows_most batch (omega arith)) }
 
 pub returns : goal.returns
 returns c = let batch = c.args.batch in
-    let all : c.loop-i.i ≡ batch.n = omega arith in
-    sized_all _ 13 batch.n _ c.loop-i.invariant.1 all (windows_text batch)
+    let all : length batch.windows ≡ 24 = c.well_formed.0.1.1.1.1.1.1.1.0.1.0.1 in
+    let count : c.lined.result ≡ count_by has_line (take batch.n batch.windows) = rw c.from-n.ensures at c.lined.ensures in
+    let most = windows_most batch (omega arith) in
+    (ap (λ (k : ℕ). 13 * k) count ∙ windows_size batch (omega arith), omega (arith, count, most))
