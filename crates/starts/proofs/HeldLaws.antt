@@ -13,6 +13,7 @@ use Rattle.model.specs.declared.Delay.{Delay}
 use Rattle.model.specs.Batch.{blank_delay}
 use Rattle.times.specs.Fill.{filled}
 use Rattle.times.proofs.FillLaws.{filled_at}
+use Rattle.weights.specs.declared.Weights.{Weights}
 use Rattle.weights.specs.Code.{coded}
 use Rattle.weights.specs.Holds.{Holds}
 use Rattle.starts.specs.Table.{store_in, with_put, with_stored, empty_table, heaviest_of, Placed}
@@ -25,19 +26,19 @@ code_none i j = refl
 
 -- ---- the loop that finds the smallest codes, those of the largest weights
 
-pub heavy_is : (m : ℕ) (froms tos codes : List ℕ) (t : List (List ℕ)) (r : List ℕ) → t ≡ with_put froms tos codes empty_table m
-    → r ≡ filled (λ k. get_or (get_or t (get_or froms k 0) []) (get_or tos k 0) 0) 128 m → r ≡ heaviest_of m froms tos codes
+pub heavy_is : {N : ℕ} (m : ℕ) (w : Weights N) (t : List (List ℕ)) (r : List ℕ) → t ≡ with_put w empty_table m
+    → r ≡ filled (λ k. get_or (get_or t (get_or w.from k 0) []) (get_or w.to k 0) 0) 128 m → r ≡ heaviest_of m w
 unfolding heaviest_of
-heavy_is m froms tos codes t r e h = rw (h, e)
+heavy_is m w t r e h = rw (h, e)
 
 -- ---- inequalities that arrays hold
 
-module _ (n : ℕ) (few : n ≤ 24) (qs : List Delay) (froms tos codes : List ℕ) (h : Holds n qs froms tos codes) where
+module _ {N : ℕ} (n : ℕ) (few : n ≤ 24) (qs : List Delay) (w : Weights N) (h : Holds n qs w) where
   -- inequality k
   abbrev item : ℕ → Delay
   item k = get_or qs k blank_delay
 
-  pub held_placed : Placed froms tos (length qs)
+  pub held_placed : Placed w (length qs)
   held_placed =
       record {
         from = λ k p. omega (arith, h.from k p, (h.fits k p).from);
@@ -45,7 +46,7 @@ module _ (n : ℕ) (few : n ≤ 24) (qs : List Delay) (froms tos codes : List �
       }
 
   -- put in
-  puts_tabled : (t : List (List ℕ)) (rs : List Delay) → Tabled n t rs → (k : ℕ) → k ≤ length qs → Tabled n (with_put froms tos codes t k) (rs ++ take k qs)
+  puts_tabled : (t : List (List ℕ)) (rs : List Delay) → Tabled n t rs → (k : ℕ) → k ≤ length qs → Tabled n (with_put w t k) (rs ++ take k qs)
   unfolding with_put
   puts_tabled t rs d zero p = rw append-nil d
   puts_tabled t rs d (suc k) p =
@@ -54,7 +55,7 @@ module _ (n : ℕ) (few : n ≤ 24) (qs : List Delay) (froms tos codes : List �
       ap (λ (l : List Delay). rs ++ l) (take-suc qs k blank_delay l) ∙ sym (append_assoc rs (take k qs) (item k ∷ [])) in
       rw (s, h.from k l, h.to k l, h.code k l) (put_tabled n few _ _ (puts_tabled t rs d k (omega arith)) (item k) (h.fits k l))
 
-  pub held_tabled : (t : List (List ℕ)) (rs : List Delay) → Tabled n t rs → Tabled n (with_put froms tos codes t (length qs)) (rs ++ qs)
+  pub held_tabled : (t : List (List ℕ)) (rs : List Delay) → Tabled n t rs → Tabled n (with_put w t (length qs)) (rs ++ qs)
   held_tabled t rs d = rw (take-length qs) at (puts_tabled t rs d (length qs) (omega arith))
 
   -- ---- stored, each with the smallest code of its pair
@@ -62,17 +63,21 @@ module _ (n : ℕ) (few : n ≤ 24) (qs : List Delay) (froms tos codes : List �
   module _ (most : length qs ≤ 128) where
     -- the table, and the smallest codes
     abbrev full : List (List ℕ)
-    full = with_put froms tos codes empty_table (length qs)
+    full = with_put w empty_table (length qs)
 
     abbrev heavy : List ℕ
-    heavy = heaviest_of (length qs) froms tos codes
+    heavy = heaviest_of (length qs) w
+
+    -- what is stored
+    abbrev lightened : Weights N
+    lightened = record { from = w.from; to = w.to; code = heavy }
 
     tabled : Tabled n full qs
     tabled = held_tabled empty_table [] (empty_tabled n)
 
-    heavy_at : (k : ℕ) → k < length qs → get_or heavy k 0 ≡ get_or (get_or full (get_or froms k 0) []) (get_or tos k 0) 0
+    heavy_at : (k : ℕ) → k < length qs → get_or heavy k 0 ≡ get_or (get_or full (get_or w.from k 0) []) (get_or w.to k 0) 0
     unfolding heaviest_of
-    heavy_at k p = filled_at (λ k. get_or (get_or full (get_or froms k 0) []) (get_or tos k 0) 0) 128 (length qs) k most p
+    heavy_at k p = filled_at (λ k. get_or (get_or full (get_or w.from k 0) []) (get_or w.to k 0) 0) 128 (length qs) k most p
 
     -- after k of them a place has the smallest code of its pair, or it is empty and none of the k is for its pair
     record Stored (k : ℕ) (t : List (List ℕ)) : Type 0 where
@@ -80,7 +85,7 @@ module _ (n : ℕ) (few : n ≤ 24) (qs : List Delay) (froms tos codes : List �
       wide : (i : ℕ) → i < 24 → length (get_or t i []) ≡ 24
       place : (i j : ℕ) → i < 24 → j < 24 → (get_or (get_or t i []) j 0 ≡ code_at qs i j) ⊎ ((get_or (get_or t i []) j 0 ≡ 65535) × (code_at (take k qs) i j ≡ 65535))
 
-    stored : (k : ℕ) → k ≤ length qs → Stored k (with_stored froms tos heavy empty_table k)
+    stored : (k : ℕ) → k ≤ length qs → Stored k (with_stored lightened empty_table k)
     unfolding with_stored kept
     stored zero p =
         record { rows = (empty_tabled n).rows; wide = (empty_tabled n).wide; place = λ i j a b. inr ((empty_tabled n).place i j a b ∙ code_none i j, code_none i j) }
@@ -90,26 +95,26 @@ module _ (n : ℕ) (few : n ≤ 24) (qs : List Delay) (froms tos codes : List �
         l = omega arith
 
         t : List (List ℕ)
-        t = with_stored froms tos heavy empty_table k
+        t = with_stored lightened empty_table k
 
-        from24 : get_or froms k 0 < 24
+        from24 : get_or w.from k 0 < 24
         from24 = held_placed.from k l
 
-        to24 : get_or tos k 0 < 24
+        to24 : get_or w.to k 0 < 24
         to24 = held_placed.to k l
 
-        go : Stored k t → Stored (suc k) (store_in t (get_or froms k 0) (get_or tos k 0) (get_or heavy k 0))
+        go : Stored k t → Stored (suc k) (store_in t (get_or w.from k 0) (get_or w.to k 0) (get_or heavy k 0))
         go s =
             record {
               rows = store_rows t s.rows s.wide _ _ _ from24 to24;
               wide = store_wide t s.rows s.wide _ _ _ from24 to24;
-              place = λ i j a b. at i j a b (ℕ_discrete i (get_or froms k 0)) (ℕ_discrete j (get_or tos k 0));
+              place = λ i j a b. at i j a b (ℕ_discrete i (get_or w.from k 0)) (ℕ_discrete j (get_or w.to k 0));
             }
           where
             new : List (List ℕ)
-            new = store_in t (get_or froms k 0) (get_or tos k 0) (get_or heavy k 0)
+            new = store_in t (get_or w.from k 0) (get_or w.to k 0) (get_or heavy k 0)
 
-            other : (i j : ℕ) → i < 24 → j < 24 → (i ≡ get_or froms k 0 → j ≡ get_or tos k 0 → ⊥) → (get_or (get_or new i []) j 0 ≡ code_at qs i j) ⊎ ((get_or (get_or new i []) j 0 ≡ 65535) × (code_at (take (suc k) qs) i j ≡ 65535))
+            other : (i j : ℕ) → i < 24 → j < 24 → (i ≡ get_or w.from k 0 → j ≡ get_or w.to k 0 → ⊥) → (get_or (get_or new i []) j 0 ≡ code_at qs i j) ⊎ ((get_or (get_or new i []) j 0 ≡ 65535) × (code_at (take (suc k) qs) i j ≡ 65535))
             other i j a b e = pick (s.place i j a b)
               where
                 same : get_or (get_or new i []) j 0 ≡ get_or (get_or t i []) j 0
@@ -125,13 +130,13 @@ module _ (n : ℕ) (few : n ≤ 24) (qs : List Delay) (froms tos codes : List �
                 pick (inl g) = inl (same ∙ g)
                 pick (inr g) = inr (same ∙ g.0, unlike ∙ g.1)
 
-            at : (i j : ℕ) → i < 24 → j < 24 → Dec (i ≡ get_or froms k 0) → Dec (j ≡ get_or tos k 0) → (get_or (get_or new i []) j 0 ≡ code_at qs i j) ⊎ ((get_or (get_or new i []) j 0 ≡ 65535) × (code_at (take (suc k) qs) i j ≡ 65535))
+            at : (i j : ℕ) → i < 24 → j < 24 → Dec (i ≡ get_or w.from k 0) → Dec (j ≡ get_or w.to k 0) → (get_or (get_or new i []) j 0 ≡ code_at qs i j) ⊎ ((get_or (get_or new i []) j 0 ≡ 65535) × (code_at (take (suc k) qs) i j ≡ 65535))
             at i j a b (yes e) (yes g) = inl (rw (e, g) (store_same t s.rows s.wide _ _ _ from24 to24 ∙ heavy_at k l ∙ tabled.place _ _ from24 to24))
             at i j a b (yes e) (no g) = other i j a b (λ _ v. g v)
             at i j a b (no e) g = other i j a b (λ u _. e u)
 
     -- so in the end it is the table of all
-    pub heavy_tabled : Tabled n (with_stored froms tos heavy empty_table (length qs)) qs
+    pub heavy_tabled : Tabled n (with_stored lightened empty_table (length qs)) qs
     heavy_tabled =
         let s = stored (length qs) (omega arith) in
         record { rows = s.rows; wide = s.wide; place = λ i j a b. pick i j (s.place i j a b); fits = tabled.fits }

@@ -28,6 +28,7 @@ use Rattle.times.specs.Latency.{latency_of}
 use Rattle.times.specs.Ends.{latest_read, none_late}
 use Rattle.times.proofs.EndsLaws.{time_is}
 use Rattle.times.proofs.LatencyLaws.{latency_padded}
+use Rattle.weights.specs.declared.Weights.{Weights}
 use Rattle.weights.specs.Code.{place_code}
 use Rattle.weights.specs.Holds.{Holds}
 use Rattle.rounds.specs.Rounds.{Reached, rounds_of, timely}
@@ -61,13 +62,13 @@ table_is n t qs h =
         ∙ sym (get_or-map (map place_code) (table qs) i [] ∙ ap (map place_code) (listed_at line [] 24 i p))
 
 -- it holds the path's inequalities
-pub path_tabled : (b : Batch) (cs : List Clash) (ts : List Turn) (m depth : ℕ) (froms tos codes tails heads gaps : List ℕ) → b.n ≤ 24 → m ≤ 128 → m ≡ length (delays_of b) → depth ≡ length ts
-    → Holds b.n (delays_of b) froms tos codes → Holds b.n (map (turned cs) ts) tails heads gaps
-    → Tabled b.n (path_table m froms tos codes tails heads gaps depth) (inequalities cs b ts)
+pub path_tabled : (b : Batch) (cs : List Clash) (ts : List Turn) (m depth : ℕ) (w : Weights 128) (steps : Weights 1024) → b.n ≤ 24 → m ≤ 128 → m ≡ length (delays_of b) → depth ≡ length ts
+    → Holds b.n (delays_of b) w → Holds b.n (map (turned cs) ts) steps
+    → Tabled b.n (path_table m w steps depth) (inequalities cs b ts)
 unfolding inequalities
-path_tabled b cs ts m depth froms tos codes tails heads gaps few most e d hd ht =
+path_tabled b cs ts m depth w steps few most e d hd ht =
     rw (e, d ∙ sym (length-map ts (turned cs)))
-    (held_tabled b.n few (map (turned cs) ts) tails heads gaps ht _ (delays_of b) (heavy_tabled b.n few (delays_of b) froms tos codes hd (omega arith)))
+    (held_tabled b.n few (map (turned cs) ts) steps ht _ (delays_of b) (heavy_tabled b.n few (delays_of b) w hd (omega arith)))
 
 -- ---- the rounds of the code, over any table that holds a list of inequalities
 
@@ -161,26 +162,26 @@ module _ (b : Batch) (few : b.n ≤ 24) (t : List (List ℕ)) (qs : List Delay) 
 
 -- 02, Q-2: whatever starts a node's rounds begin with, after every round, from 0 on, the running latency is the latency of that round's starts, whether
 -- or not there are least starts in the end. k rounds are taken, fewer only where one changed nothing or the latency came to the bound
-pub every_round : (b : Batch) (cs : List Clash) (ts : List Turn) (m depth : ℕ) (froms tos codes tails heads gaps : List ℕ) → b.n ≤ 24 → m ≤ 128 → m ≡ length (delays_of b) → depth ≡ length ts
-    → Holds b.n (delays_of b) froms tos codes → Holds b.n (map (turned cs) ts) tails heads gaps
+pub every_round : (b : Batch) (cs : List Clash) (ts : List Turn) (m depth : ℕ) (w : Weights 128) (steps : Weights 1024) → b.n ≤ 24 → m ≤ 128 → m ≡ length (delays_of b) → depth ≡ length ts
+    → Holds b.n (delays_of b) w → Holds b.n (map (turned cs) ts) steps
     → (base : List ℕ) → length base ≡ b.n → (bound first : ℕ) → bound ≤ 43017 → first ≡ latency_of (stays_read b) (pad 24 0 base) 24 → first < bound → (k : ℕ) (r : Reached)
-    → r ≡ rounds_of (path_table m froms tos codes tails heads gaps depth) (stays_read b) ((b.n + 3) / 4) bound (pad 24 0 base) first k
+    → r ≡ rounds_of (path_table m w steps depth) (stays_read b) ((b.n + 3) / 4) bound (pad 24 0 base) first k
     → (j : ℕ) × (r.starts ≡ pad 24 0 (rounds (inequalities cs b ts) base j)) × (r.latency ≡ latency b (rounds (inequalities cs b ts) base j))
     × ((j ≡ k) ⊎ ((j ≤ k) × (((r.found ≡ true) × (rounds (inequalities cs b ts) base (suc j) ≡ rounds (inequalities cs b ts) base j)) ⊎ (bound ≤ r.latency))))
-every_round b cs ts m depth froms tos codes tails heads gaps few most e d hd ht base len bound first limit l p k r g =
+every_round b cs ts m depth w steps few most e d hd ht base len bound first limit l p k r g =
     subst Told (sym g) (c.j, c.starts, c.latency ∙ latency_padded b few _ (rounds_length qs base _ ∙ len), go c.ending)
   where
     qs : List Delay
     qs = inequalities cs b ts
 
     reached : Reached
-    reached = rounds_of (path_table m froms tos codes tails heads gaps depth) (stays_read b) ((b.n + 3) / 4) bound (pad 24 0 base) first k
+    reached = rounds_of (path_table m w steps depth) (stays_read b) ((b.n + 3) / 4) bound (pad 24 0 base) first k
 
     Told : Reached → Type 0
     Told r = (j : ℕ) × (r.starts ≡ pad 24 0 (rounds qs base j)) × (r.latency ≡ latency b (rounds qs base j)) × ((j ≡ k) ⊎ ((j ≤ k) × (((r.found ≡ true) × (rounds qs base (suc j) ≡ rounds qs base j)) ⊎ (bound ≤ r.latency))))
 
     c : Came qs base (stays_read b) bound k reached
-    c = came b few _ qs (path_tabled b cs ts m depth froms tos codes tails heads gaps few most e d hd ht) base (stays_read b) len bound limit first l p k
+    c = came b few _ qs (path_tabled b cs ts m depth w steps few most e d hd ht) base (stays_read b) len bound limit first l p k
 
     go : Ending qs base bound k c.j reached → (c.j ≡ k) ⊎ ((c.j ≤ k) × (((reached.found ≡ true) × (rounds qs base (suc c.j) ≡ rounds qs base c.j)) ⊎ (bound ≤ reached.latency)))
     go (settled f e _) = inr (c.most, inl (f, e))

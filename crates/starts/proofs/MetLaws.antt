@@ -23,7 +23,7 @@ use Rattle.times.specs.Latency.{latency_of, raised_by}
 use Rattle.times.proofs.FillLaws.{filled_length}
 use Rattle.times.proofs.EndsLaws.{earliest_is}
 use Rattle.times.proofs.LatencyLaws.{latency_most}
-use Rattle.weights.specs.declared.delays.Delays.{Delays}
+use Rattle.weights.specs.declared.Weights.{Weights}
 use Rattle.weights.specs.Delays.{delays_read, DelaysSound}
 use Rattle.weights.specs.Holds.{Holds}
 use Rattle.weights.proofs.SoundLaws.{delays_length, holds_read}
@@ -53,19 +53,19 @@ module _ (b : Batch) (soon : Small (earliest_read b) 20000) (starts : List ℕ) 
 
 -- ---- and what they come to
 
-module _ (b : Batch) (s : DelaysSound b) (d : Delays) (e : d ≡ delays_read b) (m : ℕ) (p : m ≡ b.m) where
-  held : Holds b.n (delays_of b) d.from d.to d.code
+module _ (b : Batch) (s : DelaysSound b) (d : Weights 128) (e : d ≡ delays_read b) (m : ℕ) (p : m ≡ b.m) where
+  held : Holds b.n (delays_of b) d
   held = rw e (holds_read b s.few s.jobs s.weights)
 
   all_of : m ≡ length (delays_of b)
   all_of = p ∙ sym (delays_length b)
 
-  pub met_placed : Placed d.from d.to m
-  met_placed = rw all_of (held_placed b.n s.most (delays_of b) d.from d.to d.code held)
+  pub met_placed : Placed d m
+  met_placed = rw all_of (held_placed b.n s.most (delays_of b) d held)
 
-  module _ (t : List (List ℕ)) (q : t ≡ with_put d.from d.to d.code empty_table m) (soon : Small (earliest_read b) 20000) where
+  module _ (t : List (List ℕ)) (q : t ≡ with_put d empty_table m) (soon : Small (earliest_read b) 20000) where
     tabled : Tabled b.n t (delays_of b)
-    tabled = rw (q, all_of) (held_tabled b.n s.most (delays_of b) d.from d.to d.code held empty_table _ (empty_tabled b.n))
+    tabled = rw (q, all_of) (held_tabled b.n s.most (delays_of b) d held empty_table _ (empty_tabled b.n))
 
     abbrev first : List ℕ
     first = earliest_starts b

@@ -6,6 +6,7 @@ use native.Mathlib.Omega.{arith}
 use native.Mathlib.Numerals.{add-one}
 use lib.ListN.{get_or, set}
 use lib.Seq.{set-get_or}
+use Rattle.weights.specs.declared.Weights.{Weights}
 use Rattle.starts.specs.Table.{store_in, put_in, with_put, with_stored}
 
 -- ---- one place
@@ -23,20 +24,20 @@ module _ (t : List (List ℕ)) (from to code : ℕ) where
 
 -- ---- one inequality more, as the code has it: job numbers are results of calls
 
-module _ (froms tos codes : List ℕ) (t : List (List ℕ)) where
-  pub put_none : t ≡ with_put froms tos codes t 0
+module _ {N : ℕ} (w : Weights N) (t : List (List ℕ)) where
+  pub put_none : t ≡ with_put w t 0
   unfolding with_put
   put_none = refl
 
-  pub stored_none : t ≡ with_stored froms tos codes t 0
+  pub stored_none : t ≡ with_stored w t 0
   unfolding with_stored
   stored_none = refl
 
-  module _ (u v : List (List ℕ)) (k from to code : ℕ) (p : from ≡ get_or froms k 0) (q : to ≡ get_or tos k 0) (r : code ≡ get_or codes k 0) where
-    pub put_more : u ≡ with_put froms tos codes t k → v ≡ put_in u from to code → v ≡ with_put froms tos codes t (k + 1)
+  module _ (u v : List (List ℕ)) (k from to code : ℕ) (p : from ≡ get_or w.from k 0) (q : to ≡ get_or w.to k 0) (r : code ≡ get_or w.code k 0) where
+    pub put_more : u ≡ with_put w t k → v ≡ put_in u from to code → v ≡ with_put w t (k + 1)
     unfolding with_put
     put_more e h = rw (h, e, p, q, r, add-one k)
 
-    pub stored_more : u ≡ with_stored froms tos codes t k → v ≡ store_in u from to code → v ≡ with_stored froms tos codes t (k + 1)
+    pub stored_more : u ≡ with_stored w t k → v ≡ store_in u from to code → v ≡ with_stored w t (k + 1)
     unfolding with_stored
     stored_more e h = rw (h, e, p, q, r, add-one k)

@@ -8,8 +8,9 @@ ghost use Rattle.times.specs.Fill.{Small};
 ghost use Rattle.times.specs.Latency.{latency_of};
 ghost use Rattle.starts.specs.Least.{least_of};
 
-use crate::table::{put_turns, store_delays};
+use crate::table::{put_all, store_delays};
 use rounds::rounds::rounds;
+use weights::Weights;
 
 mod heaviest;
 pub mod met;
@@ -18,18 +19,14 @@ mod table;
 pub use heaviest::heaviest_of;
 
 // Rounds from the starts that are lent, over the first m delays, each with the largest weight of its pair, and the first depth turns, whose
-// inequalities go from `tail` to `head` with the code `gap`. The starts and their latency are raised in place, at most n times; a latency at or
+// inequalities are the steps. The starts and their latency are raised in place, at most n times; a latency at or
 // above the bound ends the rounds. Whether a round changed nothing and no start passes its latest is returned: the starts are then the least ones, if they were
 // at or below these and at or above the earliest.
 pub fn least_starts(
     n: usize,
     m: usize,
-    from: &[u8; 128],
-    to: &[u8; 128],
-    code: &[u16; 128],
-    tail: &[u8; 1024],
-    head: &[u8; 1024],
-    gap: &[u16; 1024],
+    delays: &Weights<128>,
+    steps: &Weights<1024>,
     depth: usize,
     stays: &[u8; 24],
     latest: &[u16; 24],
@@ -38,15 +35,15 @@ pub fn least_starts(
     latency: &mut u16,
 ) -> bool
     requires n_bound { (n ≤ 24) × ((m ≤ 128) × (depth ≤ 1024)) }
-    requires placed { Placed from.now to.now m }
-    requires placed_2 { Placed tail.now head.now depth }
+    requires placed { Placed delays.now m }
+    requires placed_2 { Placed steps.now depth }
     requires small { Small stays.now 16 × (length starts.old ≡ 24) }
     requires latency_value { (latency.old ≡ latency_of stays.now starts.old 24) × ((latency.old < bound) × (bound ≤ 43017)) }
-    ensures { record { starts = starts.new; latency = latency.new; found = result } ≡ least_of n m from.now to.now code.now tail.now head.now gap.now depth stays.now latest.now bound starts.old latency.old }
+    ensures { record { starts = starts.new; latency = latency.new; found = result } ≡ least_of n m delays.now steps.now depth stays.now latest.now bound starts.old latency.old }
 {
     let mut table = [[65535u16; 24]; 24];
-    store_delays(&mut table, m, from, to, code);
-    put_turns(&mut table, depth, tail, head, gap);
+    store_delays(&mut table, m, delays);
+    put_all(&mut table, depth, steps);
     rounds(
         &table,
         stays,

@@ -3,7 +3,7 @@
 ghost use Rattle.std.specs.Prelude.{◌≡◌, ◌≤◌, ◌<◌};
 ghost use Rattle.starts.specs.Table.{put_in, store_in, with_put, with_stored, Placed};
 
-use model::wide;
+use weights::Weights;
 
 // A place keeps the smaller of what it has and a weight's code: the larger weight.
 fn put(table: &mut [[u16; 24]; 24], from: usize, to: usize, code: u16)
@@ -23,59 +23,34 @@ fn store(table: &mut [[u16; 24]; 24], from: usize, to: usize, code: u16)
     table[from][to] = code;
 }
 
-// The first m delays, each place keeping the largest.
-pub fn put_delays(
-    table: &mut [[u16; 24]; 24],
-    m: usize,
-    from: &[u8; 128],
-    to: &[u8; 128],
-    code: &[u16; 128],
-)
-    requires m_bound { m ≤ 128 }
-    requires placed { Placed from.now to.now m }
-    ensures { table.new ≡ with_put from.now to.now code.now table.old m }
+// The first inequalities, as many as counted, each place keeping the largest: a batch's delays, or the turns taken.
+pub fn put_all<const N: usize>(table: &mut [[u16; 24]; 24], count: usize, weights: &Weights<N>)
+    requires count_bound { count ≤ N }
+    requires placed { Placed weights.now count }
+    ensures { table.new ≡ with_put weights.now table.old count }
 {
-    let mut k: usize = 0;
-    while k < m {
-        put(table, wide(from[k]), wide(to[k]), code[k]);
-        k = k + 1;
-    }
-}
-
-// The same of the first depth turns.
-pub fn put_turns(
-    table: &mut [[u16; 24]; 24],
-    depth: usize,
-    from: &[u8; 1024],
-    to: &[u8; 1024],
-    code: &[u16; 1024],
-)
-    requires depth_bound { depth ≤ 1024 }
-    requires placed { Placed from.now to.now depth }
-    ensures { table.new ≡ with_put from.now to.now code.now table.old depth }
-{
-    let mut k: usize = 0;
-    while k < depth {
-        put(table, wide(from[k]), wide(to[k]), code[k]);
-        k = k + 1;
+    for k in 0..count {
+        put(
+            table,
+            usize::from(weights.from[k]),
+            usize::from(weights.to[k]),
+            weights.code[k],
+        );
     }
 }
 
 // The first m delays, each place getting the last: without a comparison, for delays that have the smallest code of their pair.
-pub fn store_delays(
-    table: &mut [[u16; 24]; 24],
-    m: usize,
-    from: &[u8; 128],
-    to: &[u8; 128],
-    code: &[u16; 128],
-)
+pub fn store_delays(table: &mut [[u16; 24]; 24], m: usize, delays: &Weights<128>)
     requires m_bound { m ≤ 128 }
-    requires placed { Placed from.now to.now m }
-    ensures { table.new ≡ with_stored from.now to.now code.now table.old m }
+    requires placed { Placed delays.now m }
+    ensures { table.new ≡ with_stored delays.now table.old m }
 {
-    let mut k: usize = 0;
-    while k < m {
-        store(table, wide(from[k]), wide(to[k]), code[k]);
-        k = k + 1;
+    for k in 0..m {
+        store(
+            table,
+            usize::from(delays.from[k]),
+            usize::from(delays.to[k]),
+            delays.code[k],
+        );
     }
 }
