@@ -1,12 +1,8 @@
 -- Laws about one frame, from its numbers and bytes up to the line that it stands in. They serve the proofs here and in the rooms above.
-pub mod Signed
 pub mod Tests
 pub mod Bytes
 pub mod Pad
 pub mod Wides
-pub mod HeaderLaws
-pub mod JobLaws
-pub mod DelayLaws
 pub mod NumberedLaws
 pub mod One
 pub mod FileRest

@@ -1,8 +1,8 @@
 -- One line where a frame is due, at a place of the file: what is read of it, by the first of 7, 1 and the frame's own tests that fails.
-use Prim.Native.Nat.{ℕ, ◌+◌, ◌-◌, ◌/◌, ◌≤◌, ◌<◌}
+use Prim.Native.Nat.{ℕ, ◌≤◌, ◌<◌}
 use mathlib.Core.Path.{◌≡◌, refl, ap, ◌∙◌}
 use mathlib.Core.Bool.{true, not}
-use mathlib.Core.Option.{none}
+use mathlib.Core.Option.{none, some}
 use mathlib.Core.List.{List, [], ◌∷◌}
 use native.Mathlib.Omega.{arith}
 use lib.ListN.{length, drop, length-drop, drop_of_length-le}
@@ -10,10 +10,8 @@ use Rattle.model.specs.Common.{is_empty, Outcome, refuse, accept, ◌>>=◌, req
 use Rattle.model.specs.Line.{read_line}
 use Rattle.model.specs.Open.{due, read_one}
 use Rattle.model.proofs.OutcomeLaws.{accepts_bind, accepts_require}
-use Rattle.lines.proofs.Framed.{Framed}
-use Rattle.frame_read.specs.Frame.{frame_at}
+use Rattle.lines.proofs.Framed.{frame as frame_of}
 use Rattle.frame_read.proofs.Tests.{refuses_bind}
-use Rattle.frame_read.proofs.Bytes.{framed_bytes}
 
 -- where something is left, a file is not empty
 some_left : (rest : List ℕ) → 0 < length rest → not (is_empty rest) ≡ true
@@ -36,21 +34,18 @@ module _ {A : Type 0} (frame : List ℕ → Outcome A) (file : List ℕ) (at : �
   unfolding read_one due given
   one_broken l e = refuses_bind _ (accepts_require 7 _ (left l) ∙ ap (given 1) e)
 
-  module _ {end : ℕ} (f : Framed file at end) where
+  module _ {f rest : List ℕ} (is : read_line (drop at file) ≡ some (f, rest)) where
     -- the line is due, and is read
-    is_due : due (drop at file) ≡ accept (f.bytes, f.rest)
+    is_due : due (drop at file) ≡ accept (f, rest)
     unfolding due given
-    is_due = accepts_require 7 _ (left (omega (arith, f.size, f.inside))) ∙ ap (given 1) f.is
+    is_due = accepts_require 7 _ (left (omega (arith, (frame_of file at f rest is).inside))) ∙ ap (given 1) is
 
-    module _ (size : ℕ) (sized : size ≡ (end - at) / 2) where
-      -- a frame that is refused
-      pub one_refused : (k : ℕ) → frame (frame_at file at size) ≡ refuse k → read_one frame (drop at file) ≡ refuse k
-      unfolding read_one
-      one_refused k e = accepts_bind _ is_due ∙ refuses_bind _ (ap frame (framed_bytes f size sized) ∙ e)
+    -- a frame that is refused
+    pub one_refused : (k : ℕ) → frame f ≡ refuse k → read_one frame (drop at file) ≡ refuse k
+    unfolding read_one
+    one_refused k e = accepts_bind _ is_due ∙ refuses_bind _ e
 
-      -- a frame that is accepted, and the rest of the file from behind its 0A
-      pub one_read : (x : A) → frame (frame_at file at size) ≡ accept x → read_one frame (drop at file) ≡ accept (x, drop (end + 1) file)
-      unfolding read_one
-      one_read x e =
-          accepts_bind _ is_due ∙ accepts_bind _ (ap frame (framed_bytes f size sized) ∙ e)
-          ∙ ap (λ (r : List ℕ). accept (x, r)) f.after
+    -- a frame that is accepted, and the rest of the file from behind its 0A
+    pub one_read : (x : A) → frame f ≡ accept x → read_one frame (drop at file) ≡ accept (x, rest)
+    unfolding read_one
+    one_read x e = accepts_bind _ is_due ∙ accepts_bind _ e

@@ -1,14 +1,11 @@
--- Kind A4 as a frame is read: a line's number, and the answer for a frame.
+-- Kind A4 as a frame is read: a line's number, and what the code answers for a line.
 use Rattle.std.specs.Prelude.{ℕ}
-use Rattle.model.specs.Common.{Outcome, refuse, accept}
+use Rattle.model.specs.Common.{Outcome, accept, ◌>>=◌}
 use Rattle.model.specs.Rest.{RestLine}
-use Rattle.frame_read.specs.declared.rest.RestFrame.{RestFrame}
-use Rattle.frame_read.specs.declared.rest.RestFrame.TheVariants.{Found, Refused}
 
 abbrev pub rest_station : RestLine → ℕ
 rest_station l = l.station
 
--- the station and its rest, or the refusal's number
-unfoldable pub rest_told : Outcome RestLine → RestFrame
-rest_told (refuse k) = Refused k
-rest_told (accept l) = Found l.station l.ticks
+-- the station and its rest, or the refusal
+unfoldable pub rest_told : Outcome RestLine → Outcome (ℕ × ℕ)
+rest_told o = o >>= λ l. accept (l.station, l.ticks)

@@ -1,36 +1,30 @@
 // A delay's frame: A2, i, j and w.
 ghost use Rattle.std.specs.Prelude.{◌≡◌};
 ghost use Rattle.model.specs.Open.{delay};
-ghost use Rattle.frame_read.specs.Frame.{frame_at, delay_told, Inside};
+ghost use Rattle.model.specs.Refusal.{told};
 
-use crate::frame::{frame_byte, frame_is, frame_wide, signed_of};
+use crate::frame::Frame;
 use limits::{jobs_ok, weight_ok};
-use model::Delay;
+use model::{Delay, Refusal};
 
-// The delay, or the refusal's number.
-#[derive(Clone, Copy)]
-pub enum DelayFrame {
-    Found(Delay),
-    Refused(u8),
-}
-
-pub fn delay_frame(file: &[u8], at: usize, size: usize, n: u8) -> DelayFrame
-    requires { Inside file.now at size }
-    ensures { result ≡ delay_told (delay n (frame_at file.now at size)) }
+// A delay between n jobs.
+#[tactic(auto, using(model::proofs::OutcomeLaws::accepts_require, model::proofs::OutcomeLaws::refuses_require), unfolding(model::specs::Open::delay, model::specs::Open::delay_in, model::specs::Open::signed, model::specs::Refusal::told, model::specs::Refusal::number, model::specs::Line::frame_is))]
+pub fn delay_frame(frame: &Frame<'_>, n: u8) -> Result<Delay, Refusal>
+    ensures { told result ≡ delay n frame.now }
 {
-    if !frame_is(file, at, size, 0xA2, 5) {
-        return DelayFrame::Refused(2);
+    if !frame.is(0xA2, 5) {
+        return Err(Refusal::Kind);
     }
     let q = Delay {
-        from: frame_byte(file, at, size, 1),
-        to: frame_byte(file, at, size, 2),
-        weight: signed_of(frame_wide(file, at, size, 3)),
+        from: frame.byte(1),
+        to: frame.byte(2),
+        weight: frame.wide(3).cast_signed(),
     };
     if !jobs_ok(n, q) {
-        return DelayFrame::Refused(5);
+        return Err(Refusal::DelayJobs);
     }
     if !weight_ok(q) {
-        return DelayFrame::Refused(6);
+        return Err(Refusal::Weight);
     }
-    DelayFrame::Found(q)
+    Ok(q)
 }

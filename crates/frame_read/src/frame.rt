@@ -1,53 +1,73 @@
-// The bytes of a frame where it stands: `at` is the place of its first digit, and it has `size` bytes.
-ghost use Rattle.std.specs.Prelude.{◌≡◌, ◌+◌, ◌<◌};
-ghost use Rattle.model.specs.Line.{at as byte_of, wide as wide_of, frame_is};
-ghost use Rattle.model.specs.Open.{signed};
-ghost use Rattle.frame_read.specs.Frame.{frame_at, Inside};
+// A frame where it stands in a file. A clause sees its bytes.
+ghost use Rattle.std.specs.Prelude.{◌≡◌, ◌+◌, ◌<◌, length, drop, Some};
+ghost use Rattle.std.proofs.Math.Option.{some};
+ghost use Rattle.model.specs.Line.{read_line, at as byte_of, wide as wide_of, frame_is};
+ghost use Rattle.lines.specs.Read.{line_at};
 
 use lines::byte_at;
+use std::marker::Model;
 
-// A byte as a two-byte number.
-pub fn word(x: u8) -> u16
-    ensures { (result ≡ x) × (result < 256) }
-{
-    x as u16
+// `at` is the place of its first digit, and it has `size` bytes.
+#[derive(Drop)]
+pub struct Frame<'a> {
+    file: &'a [u8],
+    at: usize,
+    size: usize,
 }
 
-// Byte k of the frame.
-pub fn frame_byte(file: &[u8], at: usize, size: usize, k: usize) -> u8
-    requires inside { Inside file.now at size }
-    requires k_lt_size { k < size }
-    ensures { result ≡ byte_of (frame_at file.now at size) k }
-{
-    byte_at(file, at + 2 * k)
+impl<'a> Model for Frame<'a> {
+    ghost use Rattle.std.specs.Prelude.{ℕ, List};
+    ghost use Rattle.frame_read.specs.Frame.{frame_at, InFile};
+
+    ghost Value = { List ℕ };
+
+    ghost view = { λ f. frame_at f.file.now f.at f.size };
+
+    ghost invariant = { λ f. InFile f.file.now f.at f.size };
 }
 
-// The two-byte number at byte k of the frame, high byte first.
-pub fn frame_wide(file: &[u8], at: usize, size: usize, k: usize) -> u16
-    requires inside { Inside file.now at size }
-    requires k_bound { k + 1 < size }
-    ensures { result ≡ wide_of (frame_at file.now at size) k }
-{
-    let high = word(frame_byte(file, at, size, k));
-    let low = word(frame_byte(file, at, size, k + 1));
-    high * 256 + low
-}
-
-// Whether the frame is of a kind and length.
-pub fn frame_is(file: &[u8], at: usize, size: usize, kind: u8, length: usize) -> bool
-    requires { Inside file.now at size }
-    ensures { result ≡ frame_is kind length (frame_at file.now at size) }
-{
-    let first = frame_byte(file, at, size, 0);
-    first == kind && size == length
-}
-
-// A two-byte number as two's complement.
-pub fn signed_of(v: u16) -> i16
-    ensures { result ≡ signed v }
-{
-    if v < 32768 {
-        return v as i16;
+impl<'a> Frame<'a> {
+    // The frame of the line from `at` to the 0A at `end`.
+    pub fn new(file: &'a [u8], at: usize, end: usize) -> Frame<'a>
+        requires { line_at file.now at ≡ Some end }
+        ensures { read_line (drop at file.now) ≡ some (result, drop (end + 1) file.now) }
+    {
+        Frame {
+            file,
+            at,
+            size: (end - at) / 2,
+        }
     }
-    ((v as i32) - 65536) as i16
+
+    // Byte k of the frame.
+    pub fn byte(&self, k: usize) -> u8
+        requires { k < length self.now }
+        ensures { result ≡ byte_of self.now k }
+    {
+        byte_at(self.file, self.at + 2 * k)
+    }
+
+    // The two-byte number at byte k of the frame, high byte first.
+    pub fn wide(&self, k: usize) -> u16
+        requires { k + 1 < length self.now }
+        ensures { result ≡ wide_of self.now k }
+    {
+        let at = self.at + 2 * k;
+        u16::from_be_bytes([byte_at(self.file, at), byte_at(self.file, at + 2)])
+    }
+
+    // How many bytes it has.
+    pub fn len(&self) -> usize
+        ensures { (result ≡ length self.now) × (0 < result) }
+    {
+        self.size
+    }
+
+    // Whether the frame is of a kind and length.
+    #[tactic(auto, using(model::proofs::BoolLaws::and_true, model::proofs::BoolLaws::and_false), unfolding(model::specs::Line::frame_is))]
+    pub fn is(&self, kind: u8, length: usize) -> bool
+        ensures { result ≡ frame_is kind length self.now }
+    {
+        self.len() == length && self.byte(0) == kind
+    }
 }

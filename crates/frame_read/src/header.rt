@@ -1,33 +1,28 @@
-// The header's frame: A0, the edition, n and m.
+// A header's frame: A0, the edition, n and m.
 ghost use Rattle.std.specs.Prelude.{◌≡◌};
 ghost use Rattle.model.specs.Open.{header};
-ghost use Rattle.frame_read.specs.Frame.{frame_at, header_told, Inside};
+ghost use Rattle.model.specs.Refusal.{told};
 
-use crate::frame::{frame_byte, frame_is};
+use crate::frame::Frame;
 use limits::{counts_ok, edition_ok};
+use model::Refusal;
 
-// The edition, n and m, or the refusal's number.
-#[derive(Clone, Copy)]
-pub enum Header {
-    Counts(u8, u8, u8),
-    Refused(u8),
-}
-
-pub fn header_frame(file: &[u8], at: usize, size: usize) -> Header
-    requires { Inside file.now at size }
-    ensures { result ≡ header_told (header (frame_at file.now at size)) }
+// The edition, n and m.
+#[tactic(auto, using(model::proofs::OutcomeLaws::accepts_require, model::proofs::OutcomeLaws::refuses_require), unfolding(model::specs::Open::header, model::specs::Refusal::told, model::specs::Refusal::number, model::specs::Line::frame_is))]
+pub fn header_frame(frame: &Frame<'_>) -> Result<(u8, u8, u8), Refusal>
+    ensures { told result ≡ header frame.now }
 {
-    if !frame_is(file, at, size, 0xA0, 4) {
-        return Header::Refused(2);
+    if !frame.is(0xA0, 4) {
+        return Err(Refusal::Kind);
     }
-    let edition = frame_byte(file, at, size, 1);
+    let edition = frame.byte(1);
     if !edition_ok(edition) {
-        return Header::Refused(3);
+        return Err(Refusal::Edition);
     }
-    let n = frame_byte(file, at, size, 2);
-    let m = frame_byte(file, at, size, 3);
+    let n = frame.byte(2);
+    let m = frame.byte(3);
     if !counts_ok(n, m) {
-        return Header::Refused(4);
+        return Err(Refusal::Counts);
     }
-    Header::Counts(edition, n, m)
+    Ok((edition, n, m))
 }

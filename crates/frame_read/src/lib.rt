@@ -8,10 +8,3 @@ pub mod job;
 mod numbered;
 pub mod rest;
 pub mod window;
-
-// The place behind the frames that were read, or the refusal's number.
-#[derive(Clone, Copy)]
-pub enum Next {
-    At(usize),
-    Refused(u8),
-}
