@@ -1,20 +1,22 @@
 -- Job i with the jobs after it, as the code reads them from the batch; and the whole list.
 use Prim.Native.Nat.{ℕ, suc, ◌+◌, ◌-◌, ◌*◌, ◌≤◌, ◌<◌}
-use mathlib.Core.Path.{◌≡◌, refl, ap, ◌∙◌}
-use mathlib.Core.Bool.{Bool, true, false}
+use mathlib.Core.Path.{◌≡◌, refl, sym, ap, ◌∙◌}
+use mathlib.Core.Bool.{Bool, true, false, ◌&&◌}
 use mathlib.Core.List.{List, [], map}
 use native.Mathlib.Omega.{arith}
-use lib.ListN.{length, get_or, replicate, length-map}
+use lib.IntN.{sub_ℕ}
+use lib.ListN.{get_or, replicate, length-map, get_or-map}
 use lib.Dec.{ltb}
 use borrow.Author.Tests.{ltb-true, ltb-false}
 use Rattle.model.specs.declared.Job.{Job}
 use Rattle.model.specs.declared.Batch.{Batch}
-use Rattle.model.specs.Common.{count, joined}
-use Rattle.model.specs.Batch.{job_of, blank_job, ticks, rest_of}
+use Rattle.model.specs.Common.{count, any, keep, joined, eq_z}
+use Rattle.model.specs.Batch.{bit, job_of, blank_job, ticks, rest_of}
 use Rattle.model.specs.Clash.{Clash, clashes_of, clashes}
-use Rattle.model.proofs.SeqLaws.{get_d_same, count_end}
+use Rattle.model.proofs.SeqLaws.{blanks_at, count_end}
 use Rattle.clashes.specs.declared.Clashes.{Clashes}
 use Rattle.clashes.specs.Code.{code_of}
+use Rattle.tables.specs.Tables.{shares, tables_meet}
 use Rattle.tables.specs.Rest.{Resting, Longest, Widens}
 use Rattle.clashes.specs.List.{listing, list_of, add_all, pair_codes, row_codes, Grown, Tabled}
 use Rattle.clashes.proofs.StoreLaws.{full, add_empty}
@@ -30,26 +32,52 @@ resting b t = record { each = t.rests }
 abbrev pub job_at : Batch → ℕ → Job
 job_at b i = get_or b.jobs i (record { ticks = 0; masks = [] })
 
-module _ (b : Batch) (t : Tabled b) (long : length b.jobs ≡ 24) where
-  -- it is the job of the model
-  job_at_lem : (i : ℕ) → i < b.n → job_at b i ≡ job_of b i
-  unfolding job_of
-  job_at_lem i h = get_d_same b.jobs i (record { ticks = 0; masks = [] }) blank_job (omega (arith, t.few))
+-- what is read of an item is the same with another default of which the same is read
+same_reading : {A : Type 0} (f : A → ℕ) (xs : List A) (i : ℕ) (d e : A) → f d ≡ f e → f (get_or xs i d) ≡ f (get_or xs i e)
+same_reading f xs i d e h = sym (get_or-map f xs i d) ∙ ap (get_or (map f xs) i) h ∙ get_or-map f xs i e
 
+module _ (b : Batch) (i : ℕ) where
+  -- it has the ticks of the model's job
+  job_ticks : (job_at b i).ticks ≡ ticks b i
+  unfolding ticks job_of blank_job
+  job_ticks = same_reading (λ (j : Job). j.ticks) b.jobs i (record { ticks = 0; masks = [] }) blank_job refl
+
+  -- and its masks
+  job_masks : (a : ℕ) → get_or (job_at b i).masks a 0 ≡ get_or (job_of b i).masks a 0
+  unfolding job_of blank_job
+  job_masks a = same_reading (λ (j : Job). get_or j.masks a 0) b.jobs i (record { ticks = 0; masks = [] }) blank_job (sym (blanks_at 16 a 0))
+
+-- a job with the same ticks and masks has the same widened table, and the same codes with a job before it
+module _ (job job' : Job) (p : job.ticks ≡ job'.ticks) (m : (a : ℕ) → get_or job.masks a 0 ≡ get_or job'.masks a 0) where
+  widens_same : (rests : List ℕ) (low end : ℕ) (places : List ℕ) → Widens rests job low end places → Widens rests job' low end places
+  widens_same rests low end places w = record {
+    each = λ x h g. let n = w.each x h g in
+        record {
+          found = λ s k t. let r = n.found s k t in (r.0, omega (arith, r.1, p), ap (λ (z : ℕ). bit z s) (sym (m r.0)) ∙ r.2, r.3);
+          has = λ s a k l t q. n.has s a k (omega arith) (ap (λ (z : ℕ). bit z s) (m a) ∙ t) q;
+        };
+  }
+
+  codes_same : (low end : ℕ) (places : List ℕ) (base : ℕ) → pair_codes low end places job base ≡ pair_codes low end places job' base
+  unfolding pair_codes tables_meet
+  codes_same low end places base =
+      λ z. map (λ k. base + k)
+      (keep (λ k. any (λ x. any (λ c. eq_z (sub_ℕ x c) (sub_ℕ k 15) && shares (get_or places x 0) (m c z)) (count 0 (p z))) (count low (end - low))) (count 0 45))
+
+module _ (b : Batch) (t : Tabled b) where
   -- its ticks are within their limit
   pub job_short : (i : ℕ) → i < b.n → (job_at b i).ticks ≤ 16
-  unfolding ticks
-  job_short i h = rw (job_at_lem i h) (t.short i h)
+  job_short i h = rw (job_ticks b i) (t.short i h)
 
   -- one turn of the loop over j
   pub row_more : (i w low end p : ℕ) (places : List ℕ) (from l m : Clashes) (j : ℕ) → i < b.n → Longest b.rests w 16
       → Widens b.rests (job_at b i) (7 - w) (7 + (job_at b i).ticks + w) places → low ≡ 7 - w → p ≡ (job_at b i).ticks → end ≡ 7 + p + w
       → Growing (clashes_of b i) 45 (suc i) b.n from l j → j < b.n
       → Grown l m (pair_codes low end places (job_at b j) (i * 2048 + j * 64)) 45 → Growing (clashes_of b i) 45 (suc i) b.n from m (j + 1)
-  unfolding ticks
+  unfolding job_of ticks
   row_more i w low end p places from l m j hi longest wide el ep ee g hj s =
-      let wide' : Widens b.rests (job_of b i) (7 - w) (7 + ticks b i + w) places = rw (job_at_lem i hi) at wide in
-      let e : pair_codes low end places (job_at b j) (i * 2048 + j * 64) ≡ map code_of (clashes_of b i j) = rw (el, ee, ep, job_at_lem i hi, job_at_lem j hj) (pair_codes_lem b t w longest places i j hi wide') in
+      let wide' : Widens b.rests (job_of b i) (7 - w) (7 + ticks b i + w) places = rw (job_ticks b i) at (widens_same (job_at b i) (job_of b i) (job_ticks b i) (job_masks b i) b.rests _ _ places wide) in
+      let e : pair_codes low end places (job_at b j) (i * 2048 + j * 64) ≡ map code_of (clashes_of b i j) = codes_same (job_at b j) (job_of b j) (job_ticks b j) (job_masks b j) low end places _ ∙ rw (el, ee, ep, job_ticks b i) (pair_codes_lem b t w longest places i j hi wide') in
       grow_more (clashes_of b i) 45 (suc i) b.n from l m j g hj (rw e at s)
 
 -- after the last turn the row is complete

@@ -16,10 +16,6 @@ use Rattle.clashes.specs.List.{listing, put, add_all}
 unfoldable pub full : List ℕ → Clashes
 full xs = record { count = length xs; codes = pad 1024 0 (take 1024 xs) }
 
--- lists with the same count and codes are the same
-pub listing_same : {n n' : ℕ} {cs cs' : List ℕ} → n ≡ n' → cs ≡ cs' → listing n cs ≡ listing n' cs'
-listing_same p q = rw (p, q)
-
 -- one code more, as the code stores it
 pub put_in : (n x : ℕ) (codes codes' : List ℕ) → n < 1024 → codes' ≡ set codes n x → listing (n + 1) codes' ≡ put (listing n codes) x
 unfolding put

@@ -4,6 +4,8 @@ ghost use Rattle.model.specs.Search.{met};
 ghost use Rattle.clashes.specs.Code.{clash_of};
 ghost use Rattle.clashes.specs.First.{first_code, Known, Named, Unmet};
 
+use crate::Clashes;
+
 // t_j - t_i = d for the clash of a code, as t_j + 22 = t_i + (d + 22).
 fn is_met(code: u16, starts: &[u16; 24]) -> bool
     requires { Named code }
@@ -13,15 +15,15 @@ fn is_met(code: u16, starts: &[u16; 24]) -> bool
     usize::from(starts[x / 64 % 32]) + 22 == usize::from(starts[x / 2048]) + x % 64
 }
 
-// The number of the first of the codes below count whose clash is met. None below low is.
-pub fn first_met(codes: &[u16; 1024], low: usize, count: usize, starts: &[u16; 24]) -> Option<u16>
-    requires low_le_count { (low ≤ count) × (count ≤ 1024) }
-    requires known { Known codes.now count }
-    requires unmet { Unmet codes.now starts.now low }
-    ensures { result ≡ first_code codes.now count starts.now }
+// The number of the first clash, of those that are listed, that is met. None below low is.
+pub fn first_met(clashes: &Clashes, low: usize, starts: &[u16; 24]) -> Option<u16>
+    requires low_le_count { (low ≤ clashes.now.count) × (clashes.now.count ≤ 1024) }
+    requires known { Known clashes.now.codes clashes.now.count }
+    requires unmet { Unmet clashes.now.codes starts.now low }
+    ensures { result ≡ first_code clashes.now.codes clashes.now.count starts.now }
 {
-    for k in low..count {
-        if is_met(codes[k], starts) {
+    for k in low..clashes.count {
+        if is_met(clashes.codes[k], starts) {
             return Some(k as u16);
         }
     }

@@ -6,4 +6,4 @@ use Rattle.clashes.proofs.FirstLaws.{first_from}
 use Rattle.clashes.proofs.first.first_met.Given as goal
 
 abbrev pub invariant-loop-k : goal.invariant-loop-k
-invariant-loop-k l = (l.k ≤ l.count) × (first_from l.codes l.starts l.k l.count ≡ first_code l.codes l.count l.starts)
+invariant-loop-k l = (l.k ≤ l.clashes.count) × (first_from l.clashes.codes l.starts l.k l.clashes.count ≡ first_code l.clashes.codes l.clashes.count l.starts)

@@ -3,7 +3,6 @@
 use Prim.Native.Nat.{ℕ, suc, ◌+◌, ◌-◌, ◌<◌}
 use mathlib.Core.Path.{◌≡◌}
 use mathlib.Core.List.{List}
-use lib.ListN.{length}
 use Rattle.model.specs.declared.Batch.{Batch}
 use Rattle.model.specs.Clash.{clashes_of}
 use Rattle.tables.specs.Rest.{Longest, Closes, Widens}
@@ -14,17 +13,11 @@ use Rattle.clashes.proofs.list.list_clashes.Given as goal
 
 -- what holds throughout
 abbrev pub Fixed : Batch → ℕ → ℕ → List ℕ → Type 0
-Fixed batch n longest close = ((n ≡ batch.n) × (length batch.jobs ≡ 24)) × (Longest batch.rests longest 16 × (0 < longest → Closes batch.rests close))
+Fixed batch n longest close = (n ≡ batch.n) × (Longest batch.rests longest 16 × (0 < longest → Closes batch.rests close))
 
 abbrev pub invariant-loop-j : goal.invariant-loop-j
 invariant-loop-j l = ((l.end ≡ 7 + (job_at l.batch l.i).ticks + l.longest) × Widens l.batch.rests (job_at l.batch l.i) (7 - l.longest) (7 + (job_at l.batch l.i).ticks + l.longest) l.places)
-    × Growing (clashes_of l.batch l.i) 45 (suc l.i) l.batch.n (listing l.initial.count l.initial.codes) (listing l.count l.codes) l.j
-
-abbrev pub decreases-loop-j : goal.decreases-loop-j
-decreases-loop-j l = l.n - l.j
+    × Growing (clashes_of l.batch l.i) 45 (suc l.i) l.batch.n l.initial.clashes l.clashes l.j
 
 abbrev pub invariant-loop-i : goal.invariant-loop-i
-invariant-loop-i l = Fixed l.batch l.n l.longest l.close × Growing (row_of l.batch) 1080 0 l.batch.n (listing 0 l.initial.codes) (listing l.count l.codes) l.i
-
-abbrev pub decreases-loop-i : goal.decreases-loop-i
-decreases-loop-i l = l.n - l.i
+invariant-loop-i l = Fixed l.batch l.n l.longest l.close × Growing (row_of l.batch) 1080 0 l.batch.n (listing 0 l.initial.clashes.codes) l.clashes l.i
