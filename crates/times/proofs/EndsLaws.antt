@@ -35,14 +35,14 @@ pub window_told_lem : (ws : List Window) (i : ℕ) → i < length ws → window_
 window_told_lem ws i h = get_d_same ws i (record { lined = 0; earliest = 0; latest = 0 }) blank_window h
 
 -- what the loop has made when it ends
-module _ (b : Batch) (n i : ℕ) (e : n ≡ b.n) (h : i ≤ n) (g : n ≤ i) (l : List ℕ) where
+module _ (b : Batch) (i : ℕ) (e : i ≡ b.n) (l : List ℕ) where
   pub earliest_read_lem : l ≡ filled (λ k. (window_in b.windows k).earliest) 24 i → l ≡ earliest_read b
   unfolding earliest_read earliest window_of
-  earliest_read_lem p = let s : i ≡ b.n = omega arith in rw (p, s)
+  earliest_read_lem p = rw (p, e)
 
   pub latest_read_lem : l ≡ filled (λ k. (window_in b.windows k).latest) 24 i → l ≡ latest_read b
   unfolding latest_read latest window_of
-  latest_read_lem p = let s : i ≡ b.n = omega arith in rw (p, s)
+  latest_read_lem p = rw (p, e)
 
 -- the earliest starts are those of the definition
 pub earliest_is : (b : Batch) → b.n ≤ 24 → earliest_read b ≡ pad 24 0 (earliest_starts b)

@@ -1,9 +1,12 @@
 -- The loops over a job's ticks and over the jobs: each place of the array has its job's stay.
 use mathlib.Core.Path.{◌≡◌, refl, ap, sym, ◌∙◌}
 use mathlib.Core.List.{List, []}
-use Prim.Native.Nat.{ℕ, zero, suc, ◌≤◌}
+use Prim.Native.Nat.{ℕ, zero, suc, ◌+◌, ◌-◌, ◌≤◌, ◌<◌}
 use native.Mathlib.Omega.{arith}
-use lib.ListN.{get_or}
+use native.Mathlib.Decide.{dec_lt}
+use lib.ListN.{length, get_or, get_or-eq_default}
+use Rattle.std.proofs.lemmas.List.{get_or-take, length-take}
+use Rattle.std.proofs.Common.{take}
 use Rattle.model.specs.declared.Job.{Job}
 use Rattle.model.specs.declared.Batch.{Batch}
 use Rattle.model.specs.Batch.{ticks, job_of, blank_job}
@@ -13,25 +16,39 @@ use Rattle.model.proofs.FinishLaws.{stay_less, stay_here}
 use Rattle.times.specs.Fill.{filled}
 use Rattle.times.specs.Stays.{stays_read}
 
--- ---- one job, from its last tick down
+-- ---- one job, by its last tick that is not empty
 
-pub stay_start : (job : Job) → stay_in job job.ticks ≡ stay job
-unfolding stay
-stay_start job = refl
+module _ (job : Job) (t : ℕ) (e : t ≡ job.ticks) where
+  -- empty ticks from q on add nothing
+  stay_over : (q d : ℕ) → ((k : ℕ) → q ≤ k → get_or (take t job.masks) k 0 ≡ 0) → d + q ≤ t → stay_in job (d + q) ≡ stay_in job q
+  stay_over q zero h m = let z : 0 + q ≡ q = omega arith in ap (stay_in job) z
+  stay_over q (suc d) h m =
+      let z : suc d + q ≡ suc (d + q) = omega arith in
+      ap (stay_in job) z
+      ∙ stay_less job (d + q) (sym (get_or-take t job.masks (d + q) 0 (omega arith)) ∙ h (d + q) (omega arith))
+      ∙ stay_over q d h (omega arith)
 
-module _ (job : Job) (p k : ℕ) (e : p ≡ suc k) (at : stay_in job p ≡ stay job) where
-  -- a tick that is not empty is the last
-  pub stay_found : (get_or job.masks k 0 ≡ 0 → ⊥) → p ≡ stay job
-  stay_found h = e ∙ sym (stay_here job k h) ∙ ap (stay_in job) (sym e) ∙ at
+  -- so that the first q decide
+  stay_from : (q : ℕ) → q ≤ t → ((k : ℕ) → q ≤ k → k < length (take t job.masks) → get_or (take t job.masks) k 0 ≡ 0) → stay_in job q ≡ stay job
+  unfolding stay
+  stay_from q m h =
+      let z : job.ticks ≡ (t - q) + q = omega arith in
+      sym (ap (stay_in job) z ∙ stay_over q (t - q) (λ k g. go k g (dec_lt k (length (take t job.masks)))) (omega arith))
+    where
+      go : (k : ℕ) → q ≤ k → Dec (k < length (take t job.masks)) → get_or (take t job.masks) k 0 ≡ 0
+      go k g (yes l) = h k g l
+      go k g (no l) = get_or-eq_default (take t job.masks) 0 {n = k} (omega arith)
 
-  -- an empty one adds nothing
-  pub stay_down : get_or job.masks k 0 ≡ 0 → stay_in job k ≡ stay job
-  stay_down h = sym (stay_less job k h) ∙ ap (stay_in job) (sym e) ∙ at
+  pub stay_last : (i : ℕ) → i < length (take t job.masks) → (get_or (take t job.masks) i 0 ≡ 0 → ⊥)
+      → ((k : ℕ) → i < k → k < length (take t job.masks) → get_or (take t job.masks) k 0 ≡ 0) → i + 1 ≡ stay job
+  stay_last i l h past =
+      let m : i < t = omega (arith, length-take t job.masks) in
+      let z : i + 1 ≡ suc i = omega arith in
+      z ∙ sym (stay_here job i (λ w. h (get_or-take t job.masks i 0 m ∙ w))) ∙ stay_from (suc i) (omega arith) (λ k g. past k (omega arith))
 
-pub stay_nothing : (job : Job) (p : ℕ) → stay_in job p ≡ stay job → p ≤ 0 → 0 ≡ stay job
-unfolding stay_in
-stay_nothing job zero at h = at
-stay_nothing job (suc p) at h = absurd (omega arith)
+  pub stay_none : ((k : ℕ) → k < length (take t job.masks) → get_or (take t job.masks) k 0 ≡ 0) → 0 ≡ stay job
+  unfolding stay_in
+  stay_none h = stay_from 0 (omega arith) (λ k g. h k)
 
 -- ---- a job that is read out of the array
 
@@ -43,6 +60,6 @@ pub stay_told : (b : Batch) (i : ℕ) → stay (get_or b.jobs i (record { ticks 
 unfolding stay stay_in job_of blank_job
 stay_told b i = get_d_default stay b.jobs i (record { ticks = 0; masks = [] }) blank_job refl
 
-pub stays_read_lem : (b : Batch) (l : List ℕ) (n i : ℕ) → n ≡ b.n → i ≤ n → n ≤ i → l ≡ filled (λ i. stay (job_of b i)) 24 i → l ≡ stays_read b
+pub stays_read_lem : (b : Batch) (l : List ℕ) (i : ℕ) → i ≡ b.n → l ≡ filled (λ i. stay (job_of b i)) 24 i → l ≡ stays_read b
 unfolding stays_read
-stays_read_lem b l n i e h g p = let s : i ≡ b.n = omega arith in rw (p, s)
+stays_read_lem b l i e p = rw (p, e)

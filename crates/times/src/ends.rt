@@ -2,7 +2,7 @@
 ghost use Rattle.std.specs.Prelude.{◌≡◌, ◌≤◌};
 ghost use Rattle.times.specs.Ends.{earliest_read, latest_read, none_late};
 
-use model::{Batch, wide};
+use model::Batch;
 
 // Those of the first n jobs, and 0 in the places past them.
 #[derive(Clone, Copy)]
@@ -15,31 +15,25 @@ pub fn ends_of(batch: Batch) -> Ends
     requires { batch.n ≤ 24 }
     ensures { (result.earliest ≡ earliest_read batch) × (result.latest ≡ latest_read batch) }
 {
-    let mut earliest = [0u16; 24];
-    let mut latest = [0u16; 24];
-    let n = wide(batch.n);
-    let windows = batch.windows;
-    let mut i: usize = 0;
-    while i < n {
-        let window = windows[i];
+    let mut earliest = [0; 24];
+    let mut latest = [0; 24];
+    for i in 0..usize::from(batch.n) {
+        let window = batch.windows[i];
         earliest[i] = window.earliest;
         latest[i] = window.latest;
-        i = i + 1;
     }
     Ends { earliest, latest }
 }
 
-// Whether no start passes its latest. The loop does not stop at the first that does: without a way out it is compiled to whole vectors.
+// Whether no start passes its latest. The loop does not stop at the first that does, as `all` would: without a way out it is compiled to whole vectors.
 pub fn in_time(latest: &[u16; 24], starts: &[u16; 24]) -> bool
     ensures { result ≡ none_late latest.now starts.now 24 }
 {
     let mut timely = true;
-    let mut j: usize = 0;
-    while j < 24 {
+    for j in 0..24 {
         if latest[j] < starts[j] {
             timely = false;
         }
-        j = j + 1;
     }
     timely
 }

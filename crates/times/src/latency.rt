@@ -35,10 +35,8 @@ pub fn raised_latency(latency: u16, stays: &[u8; 24], starts: &[u16; 24]) -> u16
     ensures { result ≡ raised_by stays.now starts.now latency }
 {
     let mut latest = latency;
-    let mut i: usize = 0;
-    while i < 24 {
-        latest = larger(latest, starts[i] + stay_wide(stays[i]));
-        i = i + 1;
+    for i in 0..24 {
+        latest = latest.max(starts[i] + u16::from(stays[i]));
     }
     latest
 }

@@ -1,12 +1,8 @@
 -- `ends_of` meets its contract. The loop's invariant: the first i places have the ends of the first i jobs.
 use mathlib.Core.Path.{◌≡◌}
-use Prim.Native.Nat.{◌≤◌, ◌-◌}
 use Rattle.times.specs.Fill.{filled}
 use Rattle.times.proofs.EndsLaws.{window_in}
 use Rattle.times.proofs.ends.ends_of.Given as goal
 
 abbrev pub invariant-loop-i : goal.invariant-loop-i
-invariant-loop-i l = (l.i ≤ l.n) × ((l.earliest ≡ filled (λ k. (window_in l.windows k).earliest) 24 l.i) × (l.latest ≡ filled (λ k. (window_in l.windows k).latest) 24 l.i))
-
-abbrev pub decreases-loop-i : goal.decreases-loop-i
-decreases-loop-i l = l.n - l.i
+invariant-loop-i l = (l.earliest ≡ filled (λ k. (window_in l.batch.windows k).earliest) 24 l.i) × (l.latest ≡ filled (λ k. (window_in l.batch.windows k).latest) 24 l.i)
