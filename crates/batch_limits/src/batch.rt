@@ -5,26 +5,20 @@ ghost use Rattle.batch_limits.specs.Limits.{ticks_pass, counts_pass, limits_pass
 
 use crate::further::{edition_pass, further_pass};
 use limits::{counts_ok, ticks_ok};
-use model::{Batch, wide};
+use model::Batch;
 
 // Each job below n has 1 to 16 ticks.
 fn ticks_pass(batch: Batch) -> bool
     requires { batch.n ≤ 24 }
     ensures { result ≡ ticks_pass batch }
 {
-    let n = wide(batch.n);
-    let mut i: usize = 0;
-    while i < n {
-        let job = batch.jobs[i];
-        if !ticks_ok(job.ticks) {
-            return false;
-        }
-        i = i + 1;
-    }
-    true
+    batch.jobs[..usize::from(batch.n)]
+        .iter()
+        .all(|job| ticks_ok(job.ticks))
 }
 
 // n, m and each p are within their limits.
+#[tactic(auto, using(crate::proofs::LimitLaws::few_jobs), unfolding(crate::specs::Limits::counts_pass))]
 fn counts_pass(batch: Batch) -> bool
     ensures { result ≡ counts_pass batch }
 {
@@ -32,14 +26,9 @@ fn counts_pass(batch: Batch) -> bool
 }
 
 // So are the edition and the further lines.
+#[tactic(auto, using(crate::proofs::LimitLaws::jobs_counted), unfolding(crate::specs::Limits::limits_pass))]
 pub fn limits_pass(batch: Batch) -> bool
     ensures { result ≡ limits_pass batch }
 {
-    if !counts_pass(batch) {
-        return false;
-    }
-    if !edition_pass(batch) {
-        return false;
-    }
-    further_pass(batch)
+    counts_pass(batch) && edition_pass(batch) && further_pass(batch)
 }

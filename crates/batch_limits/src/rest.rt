@@ -9,28 +9,12 @@ use model::Batch;
 pub fn rests_pass(batch: Batch) -> bool
     ensures { result ≡ rests_pass batch }
 {
-    let rests = batch.rests;
-    let mut s: usize = 0;
-    while s < 16 {
-        if !rest_ok(rests[s]) {
-            return false;
-        }
-        s = s + 1;
-    }
-    true
+    batch.rests.iter().all(|ticks| rest_ok(*ticks))
 }
 
 // No station has a line.
 pub fn no_rests(batch: Batch) -> bool
     ensures { result ≡ unrested batch }
 {
-    let rests = batch.rests;
-    let mut s: usize = 0;
-    while s < 16 {
-        if rests[s] != 0 {
-            return false;
-        }
-        s = s + 1;
-    }
-    true
+    batch.rests.iter().all(|ticks| *ticks == 0)
 }

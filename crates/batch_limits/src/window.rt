@@ -3,16 +3,18 @@ ghost use Rattle.std.specs.Prelude.{◌≡◌, ◌≤◌};
 ghost use Rattle.batch_limits.specs.Further.{ends_pass, windows_pass, unlined};
 
 use limits::ends_ok;
-use model::{Batch, Window, wide};
+use model::{Batch, Window};
 
 // What soundness asks of one job's ends.
+#[tactic(auto, unfolding(crate::specs::Further::ends_pass))]
 fn ends_pass(window: Window) -> bool
     ensures { result ≡ ends_pass window }
 {
     if window.lined != 0 {
-        return ends_ok(window.earliest, window.latest);
+        ends_ok(window.earliest, window.latest)
+    } else {
+        window.earliest == 0 && window.latest == 65535
     }
-    window.earliest == 0 && window.latest == 65535
 }
 
 // Each job below n passes.
@@ -20,17 +22,9 @@ pub fn windows_pass(batch: Batch) -> bool
     requires { batch.n ≤ 24 }
     ensures { result ≡ windows_pass batch }
 {
-    let n = wide(batch.n);
-    let windows = batch.windows;
-    let mut i: usize = 0;
-    while i < n {
-        let window = windows[i];
-        if !ends_pass(window) {
-            return false;
-        }
-        i = i + 1;
-    }
-    true
+    batch.windows[..usize::from(batch.n)]
+        .iter()
+        .all(|window| ends_pass(*window))
 }
 
 // No job below n has a line.
@@ -38,15 +32,7 @@ pub fn no_windows(batch: Batch) -> bool
     requires { batch.n ≤ 24 }
     ensures { result ≡ unlined batch }
 {
-    let n = wide(batch.n);
-    let windows = batch.windows;
-    let mut i: usize = 0;
-    while i < n {
-        let window = windows[i];
-        if window.lined != 0 {
-            return false;
-        }
-        i = i + 1;
-    }
-    true
+    batch.windows[..usize::from(batch.n)]
+        .iter()
+        .all(|window| window.lined == 0)
 }

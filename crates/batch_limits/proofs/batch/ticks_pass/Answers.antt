@@ -1,17 +1,17 @@
--- `batch::ticks_pass` meets its contract. The invariant: the jobs from i on decide.
-use Rattle.model.proofs.BoolLaws.{passes, fails}
-use Rattle.model.proofs.AllLaws.{all_passed, all_failed, all_ended}
-use Rattle.batch_limits.proofs.LimitLaws.{ticks_start, tick_told}
+-- `batch::ticks_pass` meets its contract: `all` tests each of the first n jobs.
+use mathlib.Core.Path.{◌∙◌}
+use native.Mathlib.Omega.{arith}
+use lib.ListN.{take}
+use Rattle.std.proofs.Common.{rules, tests}
+use Rattle.std.proofs.lemmas.Iterator.{YieldsList-from_slice}
+use Rattle.std.proofs.lemmas.Iterator.Search.{all_from_yields_List}
+use Rattle.model.specs.declared.Job.{Job}
+use Rattle.model.specs.Open.{ticks_ok}
+use Rattle.batch_limits.proofs.LimitLaws.{all_ticks}
 use Rattle.batch_limits.proofs.batch.ticks_pass.Goals as goal
 
-pub loop-i-init : goal.loop-i-init
-loop-i-init c = (c.wide-n.ensures.0, ticks_start _ _ c.wide-n.ensures.0)
-
-pub returns-then-not-ticks_ok : goal.returns-then-not-ticks_ok
-returns-then-not-ticks_ok c = all_failed _ _ _ _ c.loop-i.invariant.1 c.loop-i-test.true (fails (tick_told _ _ _ c.ticks_ok.ensures) c.if-not-ticks_ok.true-raw)
-
-pub loop-i-preserved : goal.loop-i-preserved
-loop-i-preserved c = (c.loop-i.invariant.0, all_passed _ _ _ _ c.loop-i.invariant.1 c.loop-i-test.true (passes (tick_told _ _ _ c.ticks_ok.ensures) c.if-not-ticks_ok.false-raw))
-
 pub returns : goal.returns
-returns c = all_ended _ _ _ _ c.loop-i.invariant.1 c.loop-i-test.false
+returns c =
+    let b = c.args.batch in
+    all_from_yields_List (λ (j : Job). ticks_ok j.ticks) _ _ _ c.all.ensures.ran (YieldsList-from_slice (take c.from.result b.jobs) cc) (λ x b q k. search (rules, tests))
+    ∙ all_ticks b _ c.from.ensures (omega (arith, c.well_formed.0.1.1.1.1.1.0.1.0.1, c.requires, c.from.ensures))

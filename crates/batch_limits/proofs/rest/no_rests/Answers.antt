@@ -1,18 +1,13 @@
--- `rest::no_rests` meets its contract. The invariant: the stations from s on decide.
-use mathlib.Core.Path.{refl, ◌∙◌}
-use borrow.Author.Tests.{eq-eqb, ne_eqb}
-use Rattle.model.proofs.AllLaws.{all_passed, all_failed, all_ended}
-use Rattle.batch_limits.proofs.FurtherLaws.{restless_start}
+-- `rest::no_rests` meets its contract: `all` tests each station of the array.
+use mathlib.Core.Path.{◌∙◌}
+use lib.Dec.{eqb}
+use Rattle.std.proofs.Common.{rules, tests}
+use Rattle.std.proofs.lemmas.Iterator.{YieldsList-from_slice}
+use Rattle.std.proofs.lemmas.Iterator.Search.{all_from_yields_List}
+use Rattle.batch_limits.proofs.FurtherLaws.{all_unrested}
 use Rattle.batch_limits.proofs.rest.no_rests.Goals as goal
 
-pub loop-s-init : goal.loop-s-init
-loop-s-init c = refl
-
-pub returns-then-rests-s-ne0 : goal.returns-then-rests-s-ne0
-returns-then-rests-s-ne0 c = all_failed _ _ _ _ (c.loop-s.invariant ∙ restless_start _) c.loop-s-test.true (ne_eqb _ _ c.if-rests-s-ne0.true)
-
-pub loop-s-preserved : goal.loop-s-preserved
-loop-s-preserved c = all_passed _ _ _ _ c.loop-s.invariant c.loop-s-test.true (eq-eqb _ _ c.if-rests-s-ne0.false)
-
 pub returns : goal.returns
-returns c = all_ended _ _ _ _ (c.loop-s.invariant ∙ restless_start _) c.loop-s-test.false
+returns c =
+    all_from_yields_List (λ r. eqb r 0) _ _ _ c.all.ensures.ran (YieldsList-from_slice c.args.batch.rests cc) (λ x b q k. search (rules, tests))
+    ∙ all_unrested c.args.batch (search rules)

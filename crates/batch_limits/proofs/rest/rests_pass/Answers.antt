@@ -1,18 +1,14 @@
--- `rest::rests_pass` meets its contract. The invariant: the stations from s on decide.
-use mathlib.Core.Path.{refl, ◌∙◌}
-use Rattle.model.proofs.BoolLaws.{passes, fails}
-use Rattle.model.proofs.AllLaws.{all_passed, all_failed, all_ended}
-use Rattle.batch_limits.proofs.FurtherLaws.{rests_start}
+-- `rest::rests_pass` meets its contract: `all` tests each station of the array.
+use mathlib.Core.Path.{◌∙◌}
+use lib.Dec.{leb}
+use Rattle.std.proofs.Common.{rules, tests}
+use Rattle.std.proofs.lemmas.Iterator.{YieldsList-from_slice}
+use Rattle.std.proofs.lemmas.Iterator.Search.{all_from_yields_List}
+use Rattle.model.specs.Limits.{most_rest}
+use Rattle.batch_limits.proofs.FurtherLaws.{all_rests}
 use Rattle.batch_limits.proofs.rest.rests_pass.Goals as goal
 
-pub loop-s-init : goal.loop-s-init
-loop-s-init c = refl
-
-pub returns-then-not-rest_ok : goal.returns-then-not-rest_ok
-returns-then-not-rest_ok c = all_failed _ _ _ _ (c.loop-s.invariant ∙ rests_start _) c.loop-s-test.true (fails c.rest_ok.ensures c.if-not-rest_ok.true-raw)
-
-pub loop-s-preserved : goal.loop-s-preserved
-loop-s-preserved c = all_passed _ _ _ _ c.loop-s.invariant c.loop-s-test.true (passes c.rest_ok.ensures c.if-not-rest_ok.false-raw)
-
 pub returns : goal.returns
-returns c = all_ended _ _ _ _ (c.loop-s.invariant ∙ rests_start _) c.loop-s-test.false
+returns c =
+    all_from_yields_List (λ r. leb r most_rest) _ _ _ c.all.ensures.ran (YieldsList-from_slice c.args.batch.rests cc) (λ x b q k. search (rules, tests))
+    ∙ all_rests c.args.batch (search rules)
