@@ -2,13 +2,14 @@
 -- weights rise. Codes of clashes: job numbers and distance are read back from the digits.
 use mathlib.Core.Path.{◌≡◌, refl, ◌∙◌, ap}
 use mathlib.Core.Bool.{true, false}
-use Prim.Native.Nat.{ℕ, zero, suc, ◌+◌, ◌-◌, ◌/◌, ◌%◌, ◌≤◌}
+use Prim.Native.Nat.{ℕ, zero, suc, ◌+◌, ◌-◌, ◌/◌, ◌%◌, ◌≤◌, ◌<◌}
 use native.Mathlib.Omega.{arith}
-use lib.Dec.{T, leb→le, le→leb}
+use native.Mathlib.Decide.{dec_lt}
+use lib.Dec.{leb→le, le→leb}
 use lib.IntN.{ℤ, pos, negsuc, ◌+ℤ◌, ◌-ℤ◌, sub_ℕ, nat_abs}
-use lib.Signed.{le_z, ◌≤ℤ◌, non_neg}
+use lib.Signed.{le_z, ◌≤ℤ◌}
 use mir.Syntax.{w16}
-use mir.Val.{Fits, SFits, to_z, of_z}
+use mir.Val.{SFits, to_z, of_z}
 use mir.ValLaws.{to_z-of_z}
 use borrow.Author.Tests.{lt-ltb, le-ltb, leb-true, leb-false}
 use Rattle.model.specs.Clash.{Clash}
@@ -45,39 +46,22 @@ coded_gt (negsuc a) (negsuc b) e = omega (arith, leb-false b a e)
 
 -- ---- the machine's sixteen signed bits
 
--- w + 1000, which is not negative
-lifted : (w : ℤ) → Limited w → w +ℤ pos 1000 ≡ pos (2000 - coded w)
-unfolding coded
-lifted (pos k) h = let p : k ≤ 1000 = leb→le _ _ h.high.le in ap pos (omega arith)
-lifted (negsuc k) h =
-    let p : k ≤ 999 = leb→le _ _ h.low.le in
-    rw (le-ltb 1000 (suc k) (omega arith)) (ap pos (omega arith))
-
-small : (k : ℕ) → k ≤ 2000 → SFits w16 (pos k)
-small k h = record { sfits = omega arith }
-
-sum16 : (w : ℤ) → SFits w16 w → Limited w → to_z w16 (of_z w16 w) +ℤ pos 1000 ≡ pos (2000 - coded w)
-sum16 w f h = ap (λ (z : ℤ). z +ℤ pos 1000) (to_z-of_z w16 w f) ∙ lifted w h
-
-back16 : (w : ℤ) → SFits w16 w → Limited w → to_z w16 (of_z w16 (to_z w16 (of_z w16 w) +ℤ pos 1000)) ≡ pos (2000 - coded w)
-back16 w f h =
-    ap (λ (z : ℤ). to_z w16 (of_z w16 z)) (sum16 w f h)
-    ∙ to_z-of_z w16 (pos (2000 - coded w)) (small _ (omega (arith, coded_most w h)))
-
-pub lift_fits : (w : ℤ) → SFits w16 w → Limited w → SFits w16 (to_z w16 (of_z w16 w) +ℤ pos 1000)
-lift_fits w f h = rw (sum16 w f h) (small _ (omega (arith, coded_most w h)))
-
-pub lift_casts : (w : ℤ) → SFits w16 w → Limited w
-    → T (non_neg (to_z w16 (of_z w16 (to_z w16 (of_z w16 w) +ℤ pos 1000)))) × Fits w16 (nat_abs (to_z w16 (of_z w16 (to_z w16 (of_z w16 w) +ℤ pos 1000))))
-lift_casts w f h = rw (back16 w f h) (tt, record { fits = omega (arith, coded_most w h) })
-
-pub lift_is : (w : ℤ) → SFits w16 w → Limited w → (nat_abs (to_z w16 (of_z w16 (to_z w16 (of_z w16 w) +ℤ pos 1000))) ≤ 2000) × (2000 - nat_abs (to_z w16 (of_z w16 (to_z w16 (of_z w16 w) +ℤ pos 1000))) ≡ coded w)
-lift_is w f h = rw (back16 w f h) (omega arith, omega (arith, coded_most w h))
-
 -- a weight that went by its bits
 limited_fits : (w : ℤ) → Limited w → SFits w16 w
 limited_fits (pos k) h = let p : k ≤ 1000 = leb→le _ _ h.high.le in record { sfits = omega arith }
 limited_fits (negsuc k) h = let p : k ≤ 999 = leb→le _ _ h.low.le in record { sfits = omega arith }
+
+pub abs_is : (w : ℤ) → Limited w → nat_abs (to_z w16 (of_z w16 w) -ℤ pos 1000) ≡ coded w
+unfolding coded
+abs_is w f = rw (to_z-of_z w16 w (limited_fits w f)) (go w f)
+  where
+    below : (k : ℕ) → k ≤ 1000 → Dec (k < 1000) → nat_abs (sub_ℕ k 1000) ≡ 1000 - k
+    below k h (yes p) = rw (lt-ltb k 1000 p) (omega arith)
+    below k h (no p) = rw (le-ltb k 1000 (omega arith)) (omega arith)
+
+    go : (w : ℤ) → Limited w → nat_abs (w -ℤ pos 1000) ≡ coded w
+    go (pos k) h = let p : k ≤ 1000 = leb→le _ _ h.high.le in below k p (dec_lt k 1000)
+    go (negsuc k) h = omega arith
 
 pub told_limited : (w : ℤ) → Limited w → Limited (to_z w16 (of_z w16 w))
 told_limited w h = rw (to_z-of_z w16 w (limited_fits w h)) h

@@ -2,13 +2,11 @@
 use mathlib.Core.Path.{◌≡◌, ◌∙◌}
 use Prim.Native.Nat.{ℕ, zero, suc, ◌+◌, ◌-◌, ◌/◌, ◌%◌, ◌≤◌}
 use native.Mathlib.Omega.{arith}
-use lib.ListN.{set}
 use borrow.Author.Tests.{eq-eqb, ne_eqb}
 use Rattle.model.specs.Clash.{Clash}
 use Rattle.model.specs.Search.{side_of}
 use Rattle.clashes.specs.Code.{code_of}
 use Rattle.clashes.specs.First.{Named}
-use Rattle.weights.specs.declared.Weights.{Weights}
 use Rattle.weights.specs.Code.{coded, Fits, ClashFits}
 use Rattle.weights.specs.Turn.{turn_from, turn_to, turn_code}
 use Rattle.weights.proofs.CodeLaws.{clash_i, clash_j, clash_d, side0_code, side0_limited, side1_code, side1_limited}
@@ -23,19 +21,6 @@ module _ (clash turn : ℕ) where
   odd_turn : (turn % 2 ≡ 0 → ⊥) → (turn_from clash turn ≡ clash / 64 % 32) × ((turn_to clash turn ≡ clash / 2048) × (turn_code clash turn ≡ clash % 64 + 977))
   unfolding turn_from turn_to turn_code
   odd_turn h = let e = ne_eqb (turn % 2) 0 h in (rw e, (rw e, rw e))
-
--- the arrays with it; job numbers are results of calls
-module _ (w : Weights 1024) (k clash turn i j : ℕ) where
-  abbrev Stored : ℕ → ℕ → ℕ → Type 0
-  Stored a b c =
-      ◌≡◌ {A = Weights 1024} (record { from = set w.from k a; to = set w.to k b; code = set w.code k c })
-      (record { from = set w.from k (turn_from clash turn); to = set w.to k (turn_to clash turn); code = set w.code k (turn_code clash turn) })
-
-  pub even_stored : turn % 2 ≡ 0 → i ≡ clash / 2048 → j ≡ clash / 64 % 32 → Stored i j (1021 - clash % 64)
-  even_stored h p q = let t = even_turn clash turn h in rw (t.0, t.1.0, t.1.1, p, q)
-
-  pub odd_stored : (turn % 2 ≡ 0 → ⊥) → i ≡ clash / 2048 → j ≡ clash / 64 % 32 → Stored j i (clash % 64 + 977)
-  odd_stored h p q = let t = odd_turn clash turn h in rw (t.0, t.1.0, t.1.1, p, q)
 
 -- ---- the definition
 

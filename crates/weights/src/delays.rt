@@ -9,13 +9,12 @@ use delay_list::delay_at;
 use limits::delay_ok;
 use model::Batch;
 
-// 1,000 less a weight.
+// 1,000 less a weight, which is no more than that.
 fn code_of(w: i16) -> u16
     requires { Limited w }
     ensures { result ≡ coded w }
 {
-    let lifted = (w + 1000) as u16;
-    2000 - lifted
+    w.abs_diff(1000)
 }
 
 // The first m delays, tested and coded, if each of them passes. The places past them are 0.
