@@ -13,9 +13,9 @@ use Rattle.model.specs.declared.Turn.{Turn}
 use Rattle.model.specs.Common.{up_to}
 use Rattle.model.specs.Search.{empty, is_turn, turns_of}
 use Rattle.model.specs.Sound.{sound_turns}
-use Rattle.model.proofs.BoolLaws.{apart, and}
+use Rattle.model.proofs.BoolLaws.{and}
 use Rattle.model.proofs.SeqLaws.{get_d_same}
-use Rattle.soundness.specs.Path.{turn_code, turn_new, Reads}
+use Rattle.soundness.specs.Path.{turn_code, turn_new, Routed}
 use Rattle.soundness.proofs.TurnLaws.{sound_none, sound_snoc, sound_spoilt}
 use Rattle.soundness.proofs.MarkLaws.{Marked, new_clash, new_follows, none_marked, one_marked}
 
@@ -47,34 +47,35 @@ module _ (path : List Turn) (D : ℕ) (turns : List ℕ) (marks : List Bool) (k 
   none_left e = r.whole ∙ ap (λ (l : List Turn). take k path ++ l) e ∙ append-nil (take k path)
 
   -- where the reading stops, the turns are those that are read
-  stopped : k ≤ 1024 → turns_of (drop k path) ≡ [] → Reads path D (record { sound = true; depth = k; turns = turns })
-  stopped h e =
+  stopped : (n : ℕ) → n ≡ k → k ≤ 1024 → turns_of (drop k path) ≡ [] → Routed path D (record { depth = n; turns = turns })
+  stopped n q h e =
       let w = none_left e in
       record {
-        told = sym (ap (sound_turns D) w ∙ r.sound);
-        coded = λ _.
+        sound = ap (sound_turns D) w ∙ r.sound;
+        short = omega arith;
+        coded =
             record {
-              whole = sym (ap length w ∙ length-take-le k path (omega (arith, r.long)));
-              each = λ i g. r.coded i g ∙ ap turn_code (sym (get_or-take k path i empty g) ∙ ap (λ (l : List Turn). get_or l i empty) (sym w));
+              whole = q ∙ sym (ap length w ∙ length-take-le k path (omega (arith, r.long)));
+              each = λ i g. let g' : i < k = omega (arith, g, q) in r.coded i g' ∙ ap turn_code (sym (get_or-take k path i empty g') ∙ ap (λ (l : List Turn). get_or l i empty) (sym w));
             };
       }
 
   -- at the end of the path
-  pub read_end_lem : k ≤ 1024 → 1024 ≤ k → Reads path D (record { sound = true; depth = k; turns = turns })
+  pub read_end_lem : k ≤ 1024 → 1024 ≤ k → Routed path D (record { depth = 1024; turns = turns })
   unfolding turns_of up_to
   read_end_lem h g =
       let e : k ≡ length path = omega (arith, r.long) in
-      stopped h (ap (λ (j : ℕ). turns_of (drop j path)) e ∙ ap turns_of (drop-length path))
+      stopped 1024 (omega arith) h (ap (λ (j : ℕ). turns_of (drop j path)) e ∙ ap turns_of (drop-length path))
 
   module _ (d t : Turn) (here : k < 1024) (at : t ≡ get_or path k d) where
     next_left : drop k path ≡ t ∷ drop (suc k) path
     next_left = drop-cons path k d (omega (arith, r.long)) ∙ ap (λ (u : Turn). u ∷ drop (suc k) path) (sym at)
 
     -- at an empty place
-    pub read_empty : (x : Bool) → x ≡ not (is_turn t) → x ≡ true → Reads path D (record { sound = true; depth = k; turns = turns })
+    pub read_empty : (x : Bool) → x ≡ not (is_turn t) → x ≡ true → Routed path D (record { depth = k; turns = turns })
     unfolding turns_of up_to
     read_empty x p q =
-        stopped (omega arith) (ap turns_of next_left ∙ rw (not-true (is_turn t) (sym p ∙ q), up_to))
+        stopped k refl (omega arith) (ap turns_of next_left ∙ rw (not-true (is_turn t) (sym p ∙ q), up_to))
 
     -- at a turn
     turn_left : is_turn t ≡ true → turns_of (drop k path) ≡ t ∷ turns_of (drop (suc k) path)
@@ -82,17 +83,13 @@ module _ (path : List Turn) (D : ℕ) (turns : List ℕ) (marks : List Bool) (k 
     turn_left e = ap turns_of next_left ∙ rw (e, up_to)
 
     -- at a turn that may not follow
-    pub read_bad : (x y : Bool) (l : List ℕ) → x ≡ not (is_turn t) → x ≡ false → y ≡ turn_new D marks t → not y ≡ true → Reads path D (record { sound = false; depth = k; turns = l })
-    read_bad x y l p q u v =
-        record {
-          told =
-              sym (ap (sound_turns D) (r.whole ∙ ap (λ (l : List Turn). take k path ++ l) (turn_left (not-false (is_turn t) (sym p ∙ q))))
-              ∙ sound_spoilt D (take k path) (turns_of (drop (suc k) path)) t (sym (new_follows D marks (take k path) t few r.marked) ∙ sym u ∙ not-true y v));
-          coded = λ e. apart e;
-        }
+    pub read_bad : (x y : Bool) → x ≡ not (is_turn t) → x ≡ false → y ≡ turn_new D marks t → y ≡ false → sound_turns D (turns_of path) ≡ false
+    read_bad x y p q u v =
+        ap (sound_turns D) (r.whole ∙ ap (λ (l : List Turn). take k path ++ l) (turn_left (not-false (is_turn t) (sym p ∙ q))))
+        ∙ sound_spoilt D (take k path) (turns_of (drop (suc k) path)) t (sym (new_follows D marks (take k path) t few r.marked) ∙ sym u ∙ v)
 
     -- at a turn that may follow
-    pub read_more : (x y : Bool) (c z : ℕ) → x ≡ not (is_turn t) → x ≡ false → y ≡ turn_new D marks t → not y ≡ false → c ≡ t.clash → z ≡ turn_code t
+    pub read_more : (x y : Bool) (c z : ℕ) → x ≡ not (is_turn t) → x ≡ false → y ≡ turn_new D marks t → y ≡ true → c ≡ t.clash → z ≡ turn_code t
         → Read path D (set turns k z) (set marks c true) (k + 1)
     read_more x y c z p q u v e f =
         record {
@@ -111,7 +108,7 @@ module _ (path : List Turn) (D : ℕ) (turns : List ℕ) (marks : List Bool) (k 
         }
       where
         new : turn_new D marks t ≡ true
-        new = sym u ∙ not-false y v
+        new = sym u ∙ v
 
         more : take (k + 1) path ≡ take k path ++ (t ∷ [])
         more =

@@ -1,5 +1,5 @@
--- What examining a record yields: whether it is sound, and if it is, what a run works on.
-use Rattle.std.specs.Prelude.{◌≡◌, Bool, true, ◌&&◌, leb}
+-- What examining a record yields: what a run works on, if the record is sound.
+use Rattle.std.specs.Prelude.{◌≡◌, Bool, true, false, ◌&&◌, leb, Option, MatchOption}
 use Rattle.model.specs.declared.Search.{Search}
 use Rattle.model.specs.Limits.{most_total}
 use Rattle.model.specs.Search.{turns_of}
@@ -20,11 +20,10 @@ pub record Prepared (s : Search) (r : Examined) : Type 0 where
   pub clashes : r.clashes ≡ list_of s.batch
   pub delays : r.delays ≡ delays_read s.batch
   pub stays : r.stays ≡ stays_read s.batch
-  pub earliest : r.earliest ≡ earliest_read s.batch
-  pub latest : r.latest ≡ latest_read s.batch
-  pub path : Coded (turns_of s.path) r.turns r.depth
+  pub earliest : r.ends.earliest ≡ earliest_read s.batch
+  pub latest : r.ends.latest ≡ latest_read s.batch
+  pub path : Coded (turns_of s.path) r.route.turns r.route.depth
 
--- whether the record is sound, and what a run works on if it is
-pub record Examines (s : Search) (r : Examined) : Type 0 where
-  pub told : r.sound ≡ sound s
-  pub ready : r.sound ≡ true → Prepared s r
+-- what a run works on exactly where the record is sound
+abbrev pub Examines : Search → Option Examined → Type 0
+Examines s r = MatchOption r (sound s ≡ false) (λ x. (sound s ≡ true) × Prepared s x)

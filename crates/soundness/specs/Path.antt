@@ -1,5 +1,5 @@
 -- What reading a path yields.
-use Rattle.std.specs.Prelude.{ℕ, ◌+◌, ◌*◌, ◌<◌, ◌≡◌, Bool, true, false, ◌&&◌, not, List, length, get_or, drop, leb, ltb}
+use Rattle.std.specs.Prelude.{ℕ, ◌+◌, ◌*◌, ◌<◌, ◌≤◌, ◌≡◌, Bool, true, false, ◌&&◌, not, List, length, get_or, leb, ltb, Option, MatchOption}
 use Rattle.model.specs.declared.Turn.{Turn}
 use Rattle.model.specs.Common.{all}
 use Rattle.model.specs.Search.{empty, is_turn, turns_of}
@@ -19,11 +19,16 @@ pub record Coded (ts : List Turn) (turns : List ℕ) (depth : ℕ) : Type 0 wher
   pub whole : depth ≡ length ts
   pub each : (k : ℕ) → k < depth → get_or turns k 0 ≡ turn_code (get_or ts k empty)
 
--- the turns of the path are sound for D clashes, and where they are, the route holds them
-pub record Reads (path : List Turn) (D : ℕ) (r : Route) : Type 0 where
-  pub told : r.sound ≡ sound_turns D (turns_of path)
-  pub coded : r.sound ≡ true → Coded (turns_of path) r.turns r.depth
+-- the turns of the path are sound for D clashes, and the route holds them
+pub record Routed (path : List Turn) (D : ℕ) (r : Route) : Type 0 where
+  pub sound : sound_turns D (turns_of path) ≡ true
+  pub short : r.depth ≤ 1024
+  pub coded : Coded (turns_of path) r.turns r.depth
 
--- no turn from a place on
-unfoldable pub rest_empty : List Turn → ℕ → Bool
-rest_empty path depth = all (λ t. not (is_turn t)) (drop depth path)
+-- a route exactly where the turns of the path are sound for D clashes
+abbrev pub Reads : List Turn → ℕ → Option Route → Type 0
+Reads path D r = MatchOption r (sound_turns D (turns_of path) ≡ false) (λ x. Routed path D x)
+
+-- no turn in these places
+unfoldable pub rest_empty : List Turn → Bool
+rest_empty rest = all (λ t. not (is_turn t)) rest

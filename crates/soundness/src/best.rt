@@ -3,26 +3,19 @@ ghost use Rattle.std.specs.Prelude.{◌≡◌, ◌≤◌};
 ghost use Rattle.model.specs.Sound.{sound_best};
 ghost use Rattle.soundness.specs.Best.{starts_pass};
 
-
 // The first n starts are at most 43,000.
-fn starts_ok(n: usize, starts: [u16; 24]) -> bool
+fn starts_ok(n: usize, starts: &[u16; 24]) -> bool
     requires { n ≤ 24 }
-    ensures { result ≡ starts_pass n starts }
+    ensures { result ≡ starts_pass n starts.now }
 {
-    let mut i: usize = 0;
-    while i < n {
-        if 43000 < starts[i] {
-            return false;
-        }
-        i = i + 1;
-    }
-    true
+    starts[..n].iter().all(|start| *start <= 43000)
 }
 
 // What soundness asks of best and its starts.
-pub fn best_ok(n: usize, best: Option<u16>, starts: [u16; 24]) -> bool
+#[tactic(auto, unfolding(model::specs::Sound::sound_best, crate::specs::Best::starts_pass))]
+pub fn best_ok(n: usize, best: Option<u16>, starts: &[u16; 24]) -> bool
     requires { n ≤ 24 }
-    ensures { result ≡ sound_best n best starts }
+    ensures { result ≡ sound_best n best starts.now }
 {
     match best {
         None => true,

@@ -1,16 +1,11 @@
--- `best::starts_ok` meets its contract. The invariant: the starts from i on decide.
-use Rattle.model.proofs.AllLaws.{all_passed, all_failed, all_ended}
-use Rattle.soundness.proofs.BestLaws.{starts_start, start_low, start_high}
+-- `best::starts_ok` meets its contract.
+use Rattle.std.proofs.Common.{rules, arith, take, leb, ◌∙◌}
+use borrow.Author.Tests.{tests}
+use Rattle.std.proofs.lemmas.Iterator.{YieldsList-from_slice}
+use Rattle.std.proofs.lemmas.Iterator.Search.{all_from_yields_List}
+use Rattle.soundness.proofs.BestLaws.{starts_listed}
 use Rattle.soundness.proofs.best.starts_ok.Goals as goal
 
-pub loop-i-init : goal.loop-i-init
-loop-i-init c = starts_start _ _
-
-pub returns-then-starts-i-gt43000 : goal.returns-then-starts-i-gt43000
-returns-then-starts-i-gt43000 c = all_failed _ _ _ _ c.loop-i.invariant c.loop-i-test.true (start_high _ _ c.if-starts-i-gt43000.true)
-
-pub loop-i-preserved : goal.loop-i-preserved
-loop-i-preserved c = all_passed _ _ _ _ c.loop-i.invariant c.loop-i-test.true (start_low _ _ c.if-starts-i-gt43000.false)
-
 pub returns : goal.returns
-returns c = all_ended _ _ _ _ c.loop-i.invariant c.loop-i-test.false
+returns c = all_from_yields_List (λ x. leb x 43000) _ _ _ c.all.ensures.ran (YieldsList-from_slice (take c.args.n c.args.starts.now) cc) (λ x b q k. search (rules, tests))
+    ∙ starts_listed c.args.starts.now c.args.n (omega arith)
