@@ -42,21 +42,24 @@ pub fn examine(search: Search) -> Option<Examined>
         return None;
     }
     let delays = read_delays(batch)?;
-    let mut codes = [0u16; 1024];
-    let count = list_clashes(batch, &mut codes);
-    if 1024 < count {
+    let mut clashes = Clashes {
+        count: 0,
+        codes: [0; 1024],
+    };
+    list_clashes(&batch, &mut clashes);
+    if 1024 < clashes.count {
         return None;
     }
     let ends = ends_of(batch);
     if !read_delays_met(batch, &delays, &ends) {
         return None;
     }
-    let route = read_path(&search.path, count)?;
+    let route = read_path(&search.path, clashes.count)?;
     if !state_ok(&search, &route) {
         return None;
     }
     Some(Examined {
-        clashes: Clashes { count, codes },
+        clashes,
         delays,
         stays: stays_of(batch),
         ends,
