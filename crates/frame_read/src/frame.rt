@@ -39,6 +39,13 @@ impl<'a> Frame<'a> {
         }
     }
 
+    // Its first byte.
+    pub fn kind(&self) -> u8
+        ensures { result ≡ byte_of self.now 0 }
+    {
+        byte_at(self.file, self.at)
+    }
+
     // Byte k of the frame.
     pub fn byte(&self, k: usize) -> u8
         requires { k < length self.now }
@@ -58,7 +65,7 @@ impl<'a> Frame<'a> {
 
     // How many bytes it has.
     pub fn len(&self) -> usize
-        ensures { (result ≡ length self.now) × (0 < result) }
+        ensures { result ≡ length self.now }
     {
         self.size
     }
@@ -68,6 +75,6 @@ impl<'a> Frame<'a> {
     pub fn is(&self, kind: u8, length: usize) -> bool
         ensures { result ≡ frame_is kind length self.now }
     {
-        self.len() == length && self.byte(0) == kind
+        self.kind() == kind && self.len() == length
     }
 }

@@ -2,7 +2,7 @@
 use Prim.Native.Nat.{ℕ, zero, suc, ◌+◌, ◌≤◌, ◌<◌}
 use mathlib.Core.Path.{◌≡◌, refl, ap, sym, ◌∙◌}
 use mathlib.Core.Bool.{true, false}
-use mathlib.Core.Option.{none}
+use mathlib.Core.Option.{none, some}
 use mathlib.Core.List.{List, [], ◌∷◌, ◌++◌}
 use native.Mathlib.Omega.{arith}
 use lib.ListN.{length, drop, length-drop, drop_of_length-le}
@@ -11,7 +11,6 @@ use Rattle.model.specs.Common.{Outcome, refuse, accept, ◌>>=◌, given}
 use Rattle.model.specs.Line.{read_line, at as byte_of}
 use Rattle.model.specs.Open.{read_kind}
 use Rattle.model.proofs.OutcomeLaws.{accepts_bind}
-use Rattle.lines.proofs.Framed.{Framed}
 
 module _ {A : Type 0} (kind : ℕ) (frame : List A → List ℕ → Outcome A) where
   -- the lines so far, and enough turns for what is left
@@ -75,27 +74,28 @@ module _ {A : Type 0} (kind : ℕ) (frame : List A → List ℕ → Outcome A) w
       pub kind_broken : read_line (drop at file) ≡ none → whole ≡ refuse 1
       kind_broken e = by_turn (step_broken turn.0 items (drop at file) some_left e)
 
-      module _ {end : ℕ} (f : Framed file at end) where
-        is_line : given 1 (read_line (drop at file)) ≡ accept (f.bytes, f.rest)
+      -- a line, whose 0A does not stand before its place
+      module _ {end : ℕ} {f : List ℕ} (ahead : at ≤ end) (is : read_line (drop at file) ≡ some (f, drop (end + 1) file)) where
+        is_line : given 1 (read_line (drop at file)) ≡ accept (f, drop (end + 1) file)
         unfolding given
-        is_line = ap (given 1) f.is
+        is_line = ap (given 1) is
 
         -- a line of another kind
-        pub kind_other : eqb (byte_of f.bytes 0) kind ≡ false → whole ≡ accept (items, drop at file)
-        kind_other t = by_turn (step_other turn.0 items f.bytes f.rest (drop at file) some_left is_line t)
+        pub kind_other : eqb (byte_of f 0) kind ≡ false → whole ≡ accept (items, drop at file)
+        kind_other t = by_turn (step_other turn.0 items f _ (drop at file) some_left is_line t)
 
-        module _ (right : eqb (byte_of f.bytes 0) kind ≡ true) where
+        module _ (right : eqb (byte_of f 0) kind ≡ true) where
           -- a line that is refused
-          pub kind_refused : (k : ℕ) → frame items f.bytes ≡ refuse k → whole ≡ refuse k
+          pub kind_refused : (k : ℕ) → frame items f ≡ refuse k → whole ≡ refuse k
           unfolding ◌>>=◌
-          kind_refused k e = by_turn (step_line turn.0 items f.bytes f.rest (drop at file) some_left is_line right ∙ rw e)
+          kind_refused k e = by_turn (step_line turn.0 items f _ (drop at file) some_left is_line right ∙ rw e)
 
           -- a line more
-          pub kind_more : (x : A) → frame items f.bytes ≡ accept x → Kind file whole (end + 1) (items ++ (x ∷ []))
+          pub kind_more : (x : A) → frame items f ≡ accept x → Kind file whole (end + 1) (items ++ (x ∷ []))
           unfolding ◌>>=◌
           kind_more x e =
               record {
                 turns = turn.0;
-                enough = omega (arith, turn.1, r.enough, length-drop at file, length-drop (end + 1) file, f.size, f.inside);
-                same = sym (by_turn (step_line turn.0 items f.bytes f.rest (drop at file) some_left is_line right ∙ rw (e, f.after)));
+                enough = omega (arith, turn.1, r.enough, length-drop at file, length-drop (end + 1) file);
+                same = sym (by_turn (step_line turn.0 items f _ (drop at file) some_left is_line right ∙ rw e));
               }

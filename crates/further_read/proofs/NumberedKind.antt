@@ -1,29 +1,27 @@
 -- Further lines of a kind whose numbers rise, as a loop reads them: the lines so far, the lowest number that is left, and the places that they fill.
-use Prim.Native.Nat.{ℕ, suc, ◌+◌, ◌-◌, ◌/◌, ◌≤◌, ◌<◌}
+use Prim.Native.Nat.{ℕ, suc, ◌+◌, ◌≤◌, ◌<◌}
 use mathlib.Core.Path.{◌≡◌, refl, ap, ap₂, sym, ◌∙◌, subst}
+use mathlib.Core.Option.{some}
 use mathlib.Core.List.{List, [], ◌∷◌, ◌++◌}
 use native.Mathlib.Omega.{arith}
 use lib.ListN.{length, drop, set}
 use borrow.Author.Tests.{eq-eqb, ne_eqb}
-use Rattle.model.specs.Common.{Outcome, refuse, accept}
-use Rattle.model.specs.Line.{at as byte_of}
+use Rattle.std.specs.Prelude.{Some, None}
+use Rattle.model.specs.Common.{Outcome, refuse, accept, ◌>>=◌}
+use Rattle.model.specs.Line.{read_line, at as byte_of}
 use Rattle.model.specs.Open.{read_kind}
-use Rattle.lines.specs.declared.read.Line.{Line}
-use Rattle.lines.specs.declared.read.Line.TheVariants.{Frame, Broken}
+use Rattle.model.proofs.OutcomeLaws.{accept_eq, bind_accepts}
 use Rattle.lines.specs.Read.{line_at}
-use Rattle.lines.proofs.Framed.{Framed, line_frame, line_broken}
-use Rattle.frame_read.specs.declared.Next.{Next}
-use Rattle.frame_read.specs.declared.Next.TheVariants.{At}
-use Rattle.frame_read.specs.Answer.{value_of, next_of}
-use Rattle.frame_read.specs.Frame.{frame_at}
+use Rattle.lines.proofs.Framed.{line_frame, line_broken}
+use Rattle.frame_read.specs.Answer.{place_of}
 use Rattle.frame_read.specs.Numbered.{Lowest}
-use Rattle.frame_read.proofs.Bytes.{framed_bytes}
 use Rattle.frame_read.proofs.FileRest.{place_drop}
+use Rattle.frame_read.proofs.Tests.{bind_refuses}
 use Rattle.further_read.proofs.Kind.{Kind, kind_start, kind_over, kind_broken, kind_other, kind_refused, kind_more}
 use Rattle.further_read.proofs.NumberedLaws.{places_of, lowest_none, lowest_more, places_more}
 
--- such a kind: its lines A with their numbers and the places P that they fill, its frame, the answers R for a frame and S for all lines
-pub record Numbers (A P R S : Type 0) : Type 0 where
+-- such a kind: its lines A with their numbers and the places P that they fill, and its frame
+pub record Numbers (A P : Type 0) : Type 0 where
   pub kind : ℕ
   pub limit : ℕ
   pub size : ℕ
@@ -32,24 +30,21 @@ pub record Numbers (A P R S : Type 0) : Type 0 where
   pub blank : P
   pub frame : List A → List ℕ → Outcome A
   pub limits : (low : ℕ) (before : List A) (f : List ℕ) (x : A) → Lowest number low before → frame before f ≡ accept x → (number x < limit) × (low ≤ number x)
-  pub told : Outcome A → R
-  pub found : ℕ → P → R
-  pub refused : ℕ → R
-  pub told_found : (o : Outcome A) (i : ℕ) (p : P) → told o ≡ found i p → (x : A) × (o ≡ accept x) × (number x ≡ i) × (place x ≡ p)
-  pub told_refused : (o : Outcome A) (k : ℕ) → told o ≡ refused k → o ≡ refuse k
-  pub answer : Next → List P → S
 
-module _ {A P R S : Type 0} (K : Numbers A P R S) (file : List ℕ) (start : ℕ) where
+module _ {A P : Type 0} (K : Numbers A P) (file : List ℕ) (start : ℕ) where
   -- all places for lines
   abbrev array_of : List A → List P
   array_of xs = places_of K.number K.place K.blank K.size xs
 
-  -- all lines, and the answer for what is read
+  -- all lines, and the answers for one and for all
   abbrev whole : Outcome (List A × List ℕ)
   whole = read_kind K.kind K.frame (length (drop start file)) [] (drop start file)
 
-  abbrev answered : Outcome (List A × List ℕ) → S
-  answered o = K.answer (next_of file o) (array_of (value_of ([], []) o).0)
+  abbrev seen : Outcome A → Outcome (ℕ × P)
+  seen o = o >>= λ x. accept (K.number x, K.place x)
+
+  abbrev answered : Outcome (List A × List ℕ) → Outcome (List P × ℕ)
+  answered o = o >>= λ (lines, rest). accept (array_of lines, place_of file rest)
 
   pub record Numbered (at low : ℕ) (array : List P) : Type 0 where
     pub lines : List A
@@ -62,54 +57,49 @@ module _ {A P R S : Type 0} (K : Numbers A P R S) (file : List ℕ) (start : ℕ
   numbered_start array e = record { lines = []; kind_so = kind_start K.kind K.frame file start; lowest = lowest_none K.number; filled = e }
 
   -- the answer for lines that end by a refusal
-  ended : (k : ℕ) (s : S) → whole ≡ refuse k → s ≡ answered (refuse k) → s ≡ answered whole
-  ended k s e t = t ∙ ap answered (sym e)
+  ended : {k : ℕ} → whole ≡ refuse k → refuse k ≡ answered whole
+  unfolding ◌>>=◌
+  ended e = sym (ap answered e)
 
   module _ {at low : ℕ} {array : List P} (w : Numbered at low array) where
     -- the answer for lines that end at a place
-    all_read : at ≤ length file → whole ≡ accept (w.lines, drop at file) → K.answer (At at) array ≡ answered whole
-    unfolding next_of value_of
-    all_read l e = ap₂ (λ (p : ℕ) (s : List P). K.answer (At p) s) (sym (place_drop file at l)) w.filled ∙ ap answered (sym e)
+    all_read : at ≤ length file → whole ≡ accept (w.lines, drop at file) → accept (array, at) ≡ answered whole
+    unfolding ◌>>=◌
+    all_read l e = ap₂ (λ (s : List P) (p : ℕ). accept (s, p)) w.filled (sym (place_drop file at l)) ∙ sym (ap answered e)
 
     -- the file ends
-    pub numbered_over : at ≤ length file → length file ≤ at → K.answer (At at) array ≡ answered whole
+    pub numbered_over : at ≤ length file → length file ≤ at → accept (array, at) ≡ answered whole
     numbered_over l h = all_read l (kind_over K.kind K.frame w.kind_so h)
 
-    module _ (more : at < length file) (l : Line) (line-is : l ≡ line_at file at) where
+    module _ (more : at < length file) where
       -- no line
-      pub numbered_broken : l ≡ Broken → (s : S) → s ≡ answered (refuse 1) → s ≡ answered whole
-      numbered_broken b s t = ended 1 s (kind_broken K.kind K.frame w.kind_so more (line_broken l file at line-is b)) t
+      pub numbered_broken : None ≡ line_at file at → refuse 1 ≡ answered whole
+      numbered_broken b = ended (kind_broken K.kind K.frame w.kind_so more (line_broken None file at b refl))
 
-      module _ (end : ℕ) (framed : l ≡ Frame end) (k : ℕ) (first : k ≡ byte_of (frame_at file at ((end - at) / 2)) 0) where
-        f : Framed file at end
-        f = line_frame l file at end line-is framed
-
-        bytes_are : f.bytes ≡ frame_at file at ((end - at) / 2)
-        bytes_are = framed_bytes f ((end - at) / 2) refl
-
-        -- the kind that was read
-        kind_is : k ≡ byte_of f.bytes 0
-        kind_is = first ∙ ap (λ (b : List ℕ). byte_of b 0) (sym bytes_are)
+      module _ {end : ℕ} (framed : Some end ≡ line_at file at) {f : List ℕ} (is : read_line (drop at file) ≡ some (f, drop (end + 1) file)) {k : ℕ} (first : k ≡ byte_of f 0) where
+        ahead : at ≤ end
+        ahead = omega (arith, (line_frame (Some end) file at end framed refl).size)
 
         -- a line of another kind
-        pub numbered_other : (k ≡ K.kind → ⊥) → K.answer (At at) array ≡ answered whole
-        numbered_other h = all_read (omega arith) (kind_other K.kind K.frame w.kind_so more f (ne_eqb _ _ (λ e. h (kind_is ∙ e))))
+        pub numbered_other : (k ≡ K.kind → ⊥) → accept (array, at) ≡ answered whole
+        numbered_other h = all_read (omega arith) (kind_other K.kind K.frame w.kind_so more ahead is (ne_eqb _ _ (λ e. h (first ∙ e))))
 
-        module _ (right : k ≡ K.kind) (r : R) (told : (before : List A) → Lowest K.number low before → r ≡ K.told (K.frame before (frame_at file at ((end - at) / 2)))) where
-          told_so : K.told (K.frame w.lines f.bytes) ≡ r
-          told_so = ap (λ (b : List ℕ). K.told (K.frame w.lines b)) bytes_are ∙ sym (told w.lines w.lowest)
-
+        module _ (right : k ≡ K.kind) {r : Outcome (ℕ × P)} (told : (before : List A) → Lowest K.number low before → r ≡ seen (K.frame before f)) where
           -- a line that is refused
-          pub numbered_refused : (j : ℕ) → r ≡ K.refused j → (s : S) → s ≡ answered (refuse j) → s ≡ answered whole
-          numbered_refused j h s t = ended j s (kind_refused K.kind K.frame w.kind_so more f (eq-eqb _ _ (sym kind_is ∙ right)) j (K.told_refused _ j (told_so ∙ h))) t
+          pub numbered_refused : (j : ℕ) → r ≡ refuse j → refuse j ≡ answered whole
+          numbered_refused j h =
+              ended (kind_refused K.kind K.frame w.kind_so more ahead is (eq-eqb _ _ (sym first ∙ right)) j (bind_refuses (λ x. (K.number x, K.place x)) (sym (told w.lines w.lowest) ∙ h)))
 
           -- a line more, with a number below the limit
-          module _ (i : ℕ) (p : P) (found : r ≡ K.found i p) where
-            line : (x : A) × (K.frame w.lines f.bytes ≡ accept x) × (K.number x ≡ i) × (K.place x ≡ p)
-            line = K.told_found _ i p (told_so ∙ found)
+          module _ {i : ℕ} {p : P} (found : r ≡ accept (i, p)) where
+            line : (x : A) × (K.frame w.lines f ≡ accept x) × (K.number x ≡ i) × (K.place x ≡ p)
+            line =
+                let s = bind_accepts (K.frame w.lines f) (λ x. accept (K.number x, K.place x)) (i, p) (sym (told w.lines w.lowest) ∙ found) in
+                let z : ◌≡◌ {A = ℕ × P} (K.number s.0, K.place s.0) (i, p) = accept_eq s.2 in
+                (s.0, s.1, ap (λ (q : ℕ × P). q.0) z, ap (λ (q : ℕ × P). q.1) z)
 
             limits : (K.number line.0 < K.limit) × (low ≤ K.number line.0)
-            limits = K.limits low w.lines f.bytes line.0 w.lowest line.1
+            limits = K.limits low w.lines f line.0 w.lowest line.1
 
             pub numbered_below : i < K.limit
             numbered_below = omega (arith, limits.0, line.2)
@@ -119,7 +109,7 @@ module _ {A P R S : Type 0} (K : Numbers A P R S) (file : List ℕ) (start : ℕ
                 let up : suc (K.number line.0) ≡ i + 1 = omega (arith, line.2) in
                 record {
                   lines = w.lines ++ (line.0 ∷ []);
-                  kind_so = kind_more K.kind K.frame w.kind_so more f (eq-eqb _ _ (sym kind_is ∙ right)) line.0 line.1;
+                  kind_so = kind_more K.kind K.frame w.kind_so more ahead is (eq-eqb _ _ (sym first ∙ right)) line.0 line.1;
                   lowest = subst (λ (x : ℕ). Lowest K.number x (w.lines ++ (line.0 ∷ []))) up (lowest_more K.number low w.lines line.0 w.lowest limits.1);
                   filled =
                       ap₂ (λ (x : ℕ) (v : P). set array x v) (e ∙ sym line.2) (sym line.3)

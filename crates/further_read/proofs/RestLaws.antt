@@ -5,13 +5,9 @@ use mathlib.Core.List.{List}
 use Rattle.model.specs.Common.{accept}
 use Rattle.model.specs.Limits.{stations}
 use Rattle.model.specs.Rest.{RestLine, station_rises, rest}
-use Rattle.frame_read.specs.declared.rest.RestFrame.{RestFrame}
-use Rattle.frame_read.specs.declared.rest.RestFrame.TheVariants.{Found, Refused}
 use Rattle.frame_read.specs.Numbered.{Lowest}
-use Rattle.frame_read.specs.Rest.{rest_station, rest_told}
+use Rattle.frame_read.specs.Rest.{rest_station}
 use Rattle.frame_read.proofs.NumberedLaws.{frame_limits}
-use Rattle.frame_read.proofs.Told.{rest_found, rest_refused}
-use Rattle.further_read.specs.declared.rests.RestsRead.{RestsRead}
 use Rattle.further_read.proofs.NumberedKind.{Numbers}
 
 -- a rest that was read names a station below 16, not below those that are left
@@ -19,21 +15,6 @@ pub rest_limits : (low : ℕ) (before : List RestLine) (f : List ℕ) (l : RestL
 unfolding rest station_rises
 rest_limits low before f l lowest e = frame_limits rest_station 0xA4 3 stations 21 low f before lowest _ _ l refl e
 
-abbrev pub rest_numbers : Numbers RestLine ℕ RestFrame RestsRead
+abbrev pub rest_numbers : Numbers RestLine ℕ
 rest_numbers =
-    record {
-      kind = 0xA4;
-      limit = stations;
-      size = stations;
-      number = rest_station;
-      place = λ l. l.ticks;
-      blank = 0;
-      frame = rest;
-      limits = rest_limits;
-      told = rest_told;
-      found = Found;
-      refused = Refused;
-      told_found = rest_found;
-      told_refused = rest_refused;
-      answer = λ next rests. record { answer = next; rests = rests };
-    }
+    record { kind = 0xA4; limit = stations; size = stations; number = rest_station; place = λ l. l.ticks; blank = 0; frame = rest; limits = rest_limits }

@@ -7,13 +7,9 @@ use Rattle.model.specs.Common.{accept}
 use Rattle.model.specs.Limits.{most_jobs}
 use Rattle.model.specs.Batch.{blank_window}
 use Rattle.model.specs.Window.{WindowLine, window_place, job_rises, window}
-use Rattle.frame_read.specs.declared.window.WindowFrame.{WindowFrame}
-use Rattle.frame_read.specs.declared.window.WindowFrame.TheVariants.{Found, Refused}
 use Rattle.frame_read.specs.Numbered.{Lowest}
-use Rattle.frame_read.specs.Window.{window_job, window_told}
+use Rattle.frame_read.specs.Window.{window_job}
 use Rattle.frame_read.proofs.NumberedLaws.{frame_limits}
-use Rattle.frame_read.proofs.Told.{window_found, window_refused}
-use Rattle.further_read.specs.declared.windows.WindowsRead.{WindowsRead}
 use Rattle.further_read.proofs.NumberedKind.{Numbers}
 
 -- a window that was read names a job below n, not below those that are left
@@ -21,7 +17,7 @@ pub window_limits : (n low : ℕ) (before : List WindowLine) (f : List ℕ) (w :
 unfolding window job_rises
 window_limits n low before f w lowest e = frame_limits window_job 0xA3 6 n 20 low f before lowest _ _ w refl e
 
-abbrev pub window_numbers : ℕ → Numbers WindowLine Window WindowFrame WindowsRead
+abbrev pub window_numbers : ℕ → Numbers WindowLine Window
 window_numbers n =
     record {
       kind = 0xA3;
@@ -32,10 +28,4 @@ window_numbers n =
       blank = blank_window;
       frame = window n;
       limits = window_limits n;
-      told = window_told;
-      found = Found;
-      refused = Refused;
-      told_found = window_found;
-      told_refused = window_refused;
-      answer = λ next windows. record { answer = next; windows = windows };
     }

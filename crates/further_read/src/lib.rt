@@ -5,4 +5,4 @@ mod further;
 mod rests;
 mod windows;
 
-pub use further::{FurtherRead, further_refused, read_further};
+pub use further::{FurtherRead, read_further};

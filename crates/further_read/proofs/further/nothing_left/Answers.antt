@@ -1,19 +1,20 @@
 -- `nothing_left` asks for the end of the file, and then whether what is left is a line.
-use native.Mathlib.Omega.{arith}
+use mathlib.Core.Path.{refl}
+use Rattle.model.specs.Refusal.{number, told}
 use Rattle.lines.proofs.Framed.{line_frame, line_broken}
 use Rattle.further_read.proofs.FurtherLaws.{left_none, left_broken, left_line}
 use Rattle.further_read.proofs.further.nothing_left.Goals as goal
 
 pub returns-then-file-at : goal.returns-then-file-at
-returns-then-file-at c = let s = c.args in left_none s.file.now s.at (omega arith)
+unfolding told
+returns-then-file-at c = left_none _ _ c.if-file-at.true
 
 -- no line
-pub returns-in-Broken : goal.returns-in-Broken
-returns-in-Broken c = let s = c.args in
-    left_broken s.file.now s.at (omega arith) (line_broken _ _ _ c.line_at-line.ensures c.in-Broken.is)
+pub returns-in-None : goal.returns-in-None
+unfolding told number
+returns-in-None c = left_broken _ _ c.if-file-at.false (line_broken _ _ _ c.in-None.ensures refl)
 
 -- a line
-pub returns-in-Frame : goal.returns-in-Frame
-returns-in-Frame c = let s = c.args in
-    let f = line_frame _ _ _ _ c.line_at-line.ensures c.in-Frame.is in
-    left_line s.file.now s.at _ (omega arith) f.is
+pub returns-in-Some : goal.returns-in-Some
+unfolding told number
+returns-in-Some c = left_line _ _ _ c.if-file-at.false (line_frame _ _ _ _ c.in-Some.ensures refl).is
