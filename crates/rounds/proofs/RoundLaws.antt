@@ -2,16 +2,20 @@
 use mathlib.Core.Path.{◌≡◌, refl, sym, ◌∙◌, ap}
 use mathlib.Core.Bool.{Bool, true, false}
 use mathlib.Core.List.{List}
-use mathlib.Core.Logic.{⊎_elim}
 use Prim.Native.Nat.{ℕ, zero, suc, ◌+◌, ◌*◌, ◌-◌, ◌≤◌, ◌<◌, max}
-use native.Mathlib.Nat.{eq-or-lt_of_le, not-suc-le-zero}
-use native.Mathlib.Numerals.{add-one, sub-one}
+use native.Mathlib.Numerals.{sub-one}
 use native.Mathlib.Omega.{arith}
 use native.Mathlib.Decide.{ℕ_discrete, dec_lt}
 use lib.Dec.{eqb}
+use lib.Seq.{ext_get_or}
+use Rattle.std.specs.Bool.{Decides}
+use Rattle.std.specs.Prelude.{nat_eq}
+use Rattle.std.specs.Cmp.Lexicographic.{pointwise}
+use Rattle.std.proofs.lemmas.Bool.Decides.{Decides-eqb}
+use Rattle.std.proofs.lemmas.Slice.Eq.{slice_eq-Decides}
 use lib.ListN.{get_or, length, replicate, get_or-eq_default}
 use borrow.Author.Tests.{eqb-true, eq-eqb, le-leb, lt-leb}
-use Rattle.model.proofs.BoolLaws.{both, and_false}
+use Rattle.model.proofs.BoolLaws.{both, same_test}
 use Rattle.times.specs.Fill.{Small}
 use Rattle.times.specs.Ends.{none_late}
 use Rattle.rounds.specs.Rounds.{sum_at, largest, start_of, round_of, raised_to, lifted_of, highest_of, four_raised, same_to, Reached, rounds_of, timely}
@@ -94,22 +98,6 @@ module _ (table : List (List ℕ)) (old : List ℕ) where
 
 -- ---- whether a round changed something
 
-pub same_none : (a b : List ℕ) → same_to a b 0 ≡ true
-unfolding same_to
-same_none a b = refl
-
-pub same_more : (a b : List ℕ) (k : ℕ) → same_to a b k ≡ true → eqb (get_or a k 0) (get_or b k 0) ≡ true → same_to a b (k + 1) ≡ true
-unfolding same_to
-same_more a b k p q = rw (add-one k, q, p)
-
-pub same_never : (a b : List ℕ) (k n : ℕ) → k < n → eqb (get_or a k 0) (get_or b k 0) ≡ false → same_to a b n ≡ false
-unfolding same_to
-same_never a b k zero h e = absurd (not-suc-le-zero h)
-same_never a b k (suc n) h e =
-    ⊎_elim (λ (w : k ≡ n). rw (← w, e))
-    (λ (w : k < n). rw (same_never a b k n w e) (and_false (eqb (get_or a n 0) (get_or b n 0))))
-    (eq-or-lt_of_le (omega arith))
-
 pub same_self : (l : List ℕ) (k : ℕ) → same_to l l k ≡ true
 unfolding same_to
 same_self l zero = refl
@@ -125,6 +113,14 @@ same_at a b (suc k) e i h =
     go : Dec (i ≡ k) → (i < k → get_or a i 0 ≡ get_or b i 0) → get_or a k 0 ≡ get_or b k 0 → get_or a i 0 ≡ get_or b i 0
     go (yes q) rec t = rw q t
     go (no q) rec t = rec (omega arith)
+
+-- `==` of two arrays says it
+pub same_listed : (a b : List ℕ) (r : Bool) → r ≡ pointwise nat_eq a b → length a ≡ 24 → length b ≡ 24 → r ≡ same_to a b 24
+same_listed a b r e p q =
+    same_test r (same_to a b 24) (λ t. rw (d.0 t) (same_self b 24)) (λ t. d.1 (ext_get_or 0 a b (p ∙ sym q) (λ i w. same_at a b 24 t i (omega arith))))
+  where
+    d : Decides r (a ≡ b)
+    d = slice_eq-Decides Decides-eqb a b r e
 
 -- ---- k rounds, as the code has them
 

@@ -3,32 +3,31 @@
 // raises it by the new starts, and where it is at or above a bound, the rounds end.
 ghost use Rattle.std.specs.Prelude.{◌≡◌, ◌*◌, ◌≤◌, ◌<◌, length};
 ghost use Rattle.times.specs.Fill.{Small};
-ghost use Rattle.rounds.specs.Rounds.{sum_at, lifted_of, highest_of, four_raised, round_of, same_to, rounds_of, timely};
+ghost use Rattle.rounds.specs.Rounds.{sum_at, lifted_of, highest_of, four_raised, round_of, rounds_of, timely};
 ghost use Rattle.times.specs.Latency.{latency_of};
 
 use times::ends::in_time;
-use times::latency::{larger, minus, raised_latency};
+use times::latency::raised_latency;
 
 // Each start plus 1,000, of which a weight's code is taken.
 fn lifted(old: &[u16; 24]) -> [u16; 24]
     requires { Small old.now 43016 }
     ensures { result ≡ lifted_of old.now }
 {
-    let mut high = [0u16; 24];
-    let mut j: usize = 0;
-    while j < 24 {
+    let mut high = [0; 24];
+    for j in 0..24 {
         high[j] = old[j] + 1000;
-        j = j + 1;
     }
     high
 }
 
 // Old t_i plus the weight in column j of row i, by its code, where that is above 0, and else 0. So it is for an empty place: t_i + 1,000 is below 65,535.
+#[tactic(auto, unfolding(crate::specs::Rounds::sum_at))]
 fn sum(table: &[[u16; 24]; 24], high: &[u16; 24], i: usize, j: usize) -> u16
     requires { (i < 24) × (j < 24) }
     ensures { result ≡ sum_at table.now high.now j i }
 {
-    minus(high[i], table[i][j])
+    high[i].saturating_sub(table[i][j])
 }
 
 // Rows i to i + 3: each place keeps the largest of what it has and the sums of these rows.
@@ -36,13 +35,11 @@ fn raised(new: [u16; 24], table: &[[u16; 24]; 24], high: &[u16; 24], i: usize) -
     requires { i ≤ 20 }
     ensures { result ≡ four_raised table.now high.now i new }
 {
-    let mut more = [0u16; 24];
-    let mut j: usize = 0;
-    while j < 24 {
-        let first = larger(sum(table, high, i, j), sum(table, high, i + 1, j));
-        let second = larger(sum(table, high, i + 2, j), sum(table, high, i + 3, j));
-        more[j] = larger(new[j], larger(first, second));
-        j = j + 1;
+    let mut more = [0; 24];
+    for j in 0..24 {
+        let first = sum(table, high, i, j).max(sum(table, high, i + 1, j));
+        let second = sum(table, high, i + 2, j).max(sum(table, high, i + 3, j));
+        more[j] = new[j].max(first.max(second));
     }
     more
 }
@@ -51,11 +48,9 @@ fn raised(new: [u16; 24], table: &[[u16; 24]; 24], high: &[u16; 24], i: usize) -
 fn highest(old: &[u16; 24], new: &[u16; 24]) -> [u16; 24]
     ensures { result ≡ highest_of old.now new.now }
 {
-    let mut starts = [0u16; 24];
-    let mut j: usize = 0;
-    while j < 24 {
-        starts[j] = larger(old[j], new[j]);
-        j = j + 1;
+    let mut starts = [0; 24];
+    for j in 0..24 {
+        starts[j] = old[j].max(new[j]);
     }
     starts
 }
@@ -67,26 +62,11 @@ fn round(table: &[[u16; 24]; 24], old: [u16; 24], fours: usize) -> [u16; 24]
     ensures { result ≡ round_of table.now old (4 * fours) }
 {
     let high = lifted(&old);
-    let mut new = [0u16; 24];
-    let mut q: usize = 0;
-    while q < fours {
+    let mut new = [0; 24];
+    for q in 0..fours {
         new = raised(new, table, &high, 4 * q);
-        q = q + 1;
     }
     highest(&old, &new)
-}
-
-fn same(a: &[u16; 24], b: &[u16; 24]) -> bool
-    ensures { result ≡ same_to a.now b.now 24 }
-{
-    let mut j: usize = 0;
-    while j < 24 {
-        if a[j] != b[j] {
-            return false;
-        }
-        j = j + 1;
-    }
-    true
 }
 
 // k rounds more: starts and latency are raised in place, together. A round that changes nothing ends them, since no later one would change anything; so
@@ -113,7 +93,7 @@ pub fn rounds(
     }
     let old = *starts;
     let new = round(table, old, fours);
-    if same(&old, &new) {
+    if old == new {
         return in_time(latest, &old);
     }
     let risen = raised_latency(*latency, stays, &new);

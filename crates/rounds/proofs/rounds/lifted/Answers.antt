@@ -1,5 +1,4 @@
 -- `lifted` meets its contract. The loop's invariant: the first j places are filled.
-use borrow.Author.Rules.{rules}
 use native.Mathlib.Omega.{arith}
 use mathlib.Core.Path.{◌≡◌, refl, ◌∙◌, ap}
 use Rattle.times.specs.Fill.{filled}
@@ -8,14 +7,14 @@ use Rattle.times.proofs.FillLaws.{filled_none, filled_more}
 use Rattle.rounds.proofs.rounds.lifted.Goals as goal
 
 pub loop-j-init : goal.loop-j-init
-loop-j-init c = (search rules, filled_none _ 24)
+loop-j-init c = filled_none _ 24
 
 pub overflow_add-high : goal.overflow_add-high
 overflow_add-high c = omega (arith, c.requires.each c.loop-j.j)
 
 pub loop-j-preserved : goal.loop-j-preserved
-loop-j-preserved c = (search rules, filled_more _ 24 _ _ _ c.loop-j.invariant.1 refl)
+loop-j-preserved c = filled_more _ 24 _ _ _ c.loop-j.invariant refl
 
 pub returns : goal.returns
 unfolding lifted_of
-returns c = let h : c.loop-j.j ≡ 24 = omega arith in c.loop-j.invariant.1 ∙ ap (filled _ 24) h
+returns c = let h : c.loop-j.j ≡ 24 = omega arith in c.loop-j.invariant ∙ ap (filled _ 24) h

@@ -1,11 +1,8 @@
 -- `round` meets its contract. The loop's invariant: the places are those after 4 * q rows, each sum from the old starts.
 use mathlib.Core.Path.{◌≡◌}
-use Prim.Native.Nat.{◌*◌, ◌≤◌, ◌-◌}
+use Prim.Native.Nat.{◌*◌}
 use Rattle.rounds.specs.Rounds.{raised_to}
 use Rattle.rounds.proofs.rounds.round.Given as goal
 
 abbrev pub invariant-loop-q : goal.invariant-loop-q
-invariant-loop-q l = (l.q ≤ l.fours) × (l.new ≡ raised_to l.table l.high (4 * l.q))
-
-abbrev pub decreases-loop-q : goal.decreases-loop-q
-decreases-loop-q l = l.fours - l.q
+invariant-loop-q l = l.new ≡ raised_to l.table l.high (4 * l.q)
