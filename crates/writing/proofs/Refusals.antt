@@ -8,6 +8,8 @@ use lib.Dec.{eqb}
 use borrow.Author.Tests.{eqb-true}
 use Rattle.model.specs.declared.Batch.{Batch}
 use Rattle.model.specs.declared.Search.{Search}
+use Rattle.model.specs.declared.refusal.Refusal.TheVariants.{Unsound, Unended}
+use Rattle.model.specs.Refusal.{number}
 use Rattle.model.specs.Common.{Outcome, refuse, accept, ◌>>=◌, require}
 use Rattle.model.specs.Format.{further_of, has_none, batch_file}
 use Rattle.model.specs.Sound.{sound_edition, sound}
@@ -43,8 +45,8 @@ sound_bounded s h =
 asked : Bool → List ℕ → Outcome (List ℕ)
 asked sound text = require 12 sound >>= (λ _. accept text)
 
-pub batch_unsound : (s : Search) → sound s ≡ false → refuse 12 ≡ batch_text s
-unfolding batch_text asked require ◌>>=◌
+pub batch_unsound : (s : Search) → sound s ≡ false → refuse (number Unsound) ≡ batch_text s
+unfolding number batch_text asked require ◌>>=◌
 batch_unsound s h = ap (λ (p : Bool). asked p (batch_file s.batch)) (sym h)
 
 pub batch_sound : (s : Search) → sound s ≡ true → accept (batch_file s.batch) ≡ batch_text s
@@ -59,12 +61,12 @@ asked_both sound ended text = require 12 sound >>= (λ _. require 15 ended >>= (
 text_of : Search → List ℕ
 text_of s = plan_lines s.best s.batch.n s.starts s.total
 
-pub plan_unsound : (s : Search) → sound s ≡ false → refuse 12 ≡ plan_text s
-unfolding plan_text asked_both text_of require ◌>>=◌
+pub plan_unsound : (s : Search) → sound s ≡ false → refuse (number Unsound) ≡ plan_text s
+unfolding number plan_text asked_both text_of require ◌>>=◌
 plan_unsound s h = ap (λ (p : Bool). asked_both p s.ended (text_of s)) (sym h)
 
-pub plan_open : (s : Search) → sound s ≡ true → s.ended ≡ false → refuse 15 ≡ plan_text s
-unfolding plan_text asked_both text_of require ◌>>=◌
+pub plan_open : (s : Search) → sound s ≡ true → s.ended ≡ false → refuse (number Unended) ≡ plan_text s
+unfolding number plan_text asked_both text_of require ◌>>=◌
 plan_open s h e = ap₂ (λ (p q : Bool). asked_both p q (text_of s)) (sym h) (sym e)
 
 pub plan_ended : (s : Search) → sound s ≡ true → s.ended ≡ true → accept (plan_lines s.best s.batch.n s.starts s.total) ≡ plan_text s

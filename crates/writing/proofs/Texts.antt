@@ -47,12 +47,18 @@ read_length b i = ap length (sym (read_line_lem b i)) ∙ job_length (read_job b
 
 -- ---- delays
 
+abbrev pub delay_piece : Batch → ℕ → List ℕ
+delay_piece b k = delay_line (delay_of b k)
+
+pub delays_text : (b : Batch) → joined delay_line (delays_of b) ≡ pieces (delay_piece b) b.m
+unfolding delays_of
+delays_text b = joined_pieces delay_line (delay_of b) b.m
+
 pub delays_size : (q : ℕ → Delay) (k : ℕ) → length (pieces (λ i. delay_line (q i)) k) ≡ 11 * k
 delays_size q k = pieces_even (λ i. delay_line (q i)) 11 (λ i. delay_length (q i)) k
 
 pub delays_length : (b : Batch) → length (joined delay_line (delays_of b)) ≡ 11 * b.m
-unfolding delays_of
-delays_length b = ap length (joined_pieces delay_line (delay_of b) b.m) ∙ delays_size (delay_of b) b.m
+delays_length b = ap length (delays_text b) ∙ delays_size (delay_of b) b.m
 
 -- ---- the batch text
 

@@ -8,11 +8,9 @@ ghost use Rattle.model.specs.Format.{job_line, jobs_of, delay_line, batch_file};
 ghost use Rattle.lines.specs.Write.{overwritten};
 ghost use Rattle.writing.specs.Bounded.{Bounded};
 
-use delay_array::array_columns;
-use delay_list::delay_at;
 use frame_put::{put_delay, put_header, put_job};
 use further_put::{put_rests, put_windows, rests_length, windows_length};
-use model::{Batch, wide, wide16};
+use model::Batch;
 
 // The whole batch text at the buffer's front.
 pub fn put_batch(buffer: &mut [u8], batch: Batch) -> usize
@@ -32,14 +30,11 @@ pub fn batch_length(batch: Batch) -> usize
     requires { Bounded batch }
     ensures { result ≡ length (batch_file batch) }
 {
-    let n = wide(batch.n);
-    let m = wide(batch.m);
+    let n = usize::from(batch.n);
+    let m = usize::from(batch.m);
     let mut size: usize = 9 + 11 * m + windows_length(batch) + rests_length(batch);
-    let mut i: usize = 0;
-    while i < n {
-        let job = batch.jobs[i];
-        size = size + 4 * wide16(job.ticks) + 5;
-        i = i + 1;
+    for job in &batch.jobs[..n] {
+        size += 4 * usize::from(job.ticks) + 5;
     }
     size
 }
@@ -50,13 +45,10 @@ fn put_jobs(buffer: &mut [u8], at: usize, batch: Batch) -> usize
     requires batch_in_bounds { at + length (joined job_line (jobs_of batch)) ≤ length buffer.old }
     ensures { (result ≡ at + length (joined job_line (jobs_of batch))) × (buffer.new ≡ overwritten buffer.old at (joined job_line (jobs_of batch))) }
 {
-    let n = wide(batch.n);
+    let n = usize::from(batch.n);
     let mut next = at;
-    let mut i: usize = 0;
-    while i < n {
-        let job = batch.jobs[i];
-        next = put_job(buffer, next, job);
-        i = i + 1;
+    for job in &batch.jobs[..n] {
+        next = put_job(buffer, next, *job);
     }
     next
 }
@@ -66,17 +58,10 @@ fn put_delays(buffer: &mut [u8], at: usize, batch: Batch) -> usize
     requires { (batch.m ≤ most_delays) × (at + 11 * batch.m ≤ length buffer.old) }
     ensures { (result ≡ at + 11 * batch.m) × (buffer.new ≡ overwritten buffer.old at (joined delay_line (delays_of batch))) }
 {
-    let m = wide(batch.m);
-    let delays = batch.delays;
-    let columns = array_columns(delays, m);
-    let from = columns.from;
-    let to = columns.to;
-    let weight = columns.weight;
+    let m = usize::from(batch.m);
     let mut next = at;
-    let mut k: usize = 0;
-    while k < m {
-        next = put_delay(buffer, next, delay_at(&from, &to, &weight, k));
-        k = k + 1;
+    for delay in &batch.delays[..m] {
+        next = put_delay(buffer, next, *delay);
     }
     next
 }

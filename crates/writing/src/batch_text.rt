@@ -3,32 +3,38 @@ ghost use Rattle.std.specs.Prelude.{◌≡◌};
 ghost use Rattle.model.specs.Common.{accept};
 ghost use Rattle.model.specs.Format.{batch_file};
 ghost use Rattle.model.specs.Text.{batch_text, written};
+ghost use Rattle.writing.specs.Answer.{answer_of};
 ghost use Rattle.writing.specs.Bounded.{Bounded};
 
+use crate::answer::answer_of;
 use crate::batch::{batch_length, put_batch};
-use model::{Batch, Search, Written};
+use model::{Batch, Refusal, Search, Written};
 
 // The batch text of a record.
 pub fn write_batch(search: Search, buffer: &mut [u8]) -> Written
     ensures { (result, buffer.new) ≡ written (batch_text search) buffer.old }
 {
-    let sound = soundness::is_sound(search);
-    if !sound {
-        return Written::Refused(12);
+    answer_of(write_sound(search, buffer))
+}
+
+// The text of a sound record.
+fn write_sound(search: Search, buffer: &mut [u8]) -> Result<usize, Refusal>
+    ensures { (answer_of result, buffer.new) ≡ written (batch_text search) buffer.old }
+{
+    if !soundness::is_sound(search) {
+        return Err(Refusal::Unsound);
     }
-    let batch = search.batch;
-    write_bounded(batch, buffer)
+    write_bounded(search.batch, buffer)
 }
 
 // The text of a batch whose counts stay within its arrays.
-fn write_bounded(batch: Batch, buffer: &mut [u8]) -> Written
+fn write_bounded(batch: Batch, buffer: &mut [u8]) -> Result<usize, Refusal>
     requires { Bounded batch }
-    ensures { (result, buffer.new) ≡ written (accept (batch_file batch)) buffer.old }
+    ensures { (answer_of result, buffer.new) ≡ written (accept (batch_file batch)) buffer.old }
 {
     let size = batch_length(batch);
     if buffer.len() < size {
-        return Written::Refused(16);
+        return Err(Refusal::ShortBuffer);
     }
-    let end = put_batch(buffer, batch);
-    Written::Bytes(end)
+    Ok(put_batch(buffer, batch))
 }

@@ -2,6 +2,7 @@
 // the text does not fit.
 #![tactic(auto)]
 
+mod answer;
 mod batch;
 mod batch_text;
 mod plan;

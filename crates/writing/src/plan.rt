@@ -5,7 +5,6 @@ ghost use Rattle.lines.specs.Write.{overwritten};
 ghost use Rattle.writing.specs.Plan.{found_lines, start_lines};
 
 use frame_put::{put_head, put_start};
-use model::wide;
 
 // The whole text at the buffer's front.
 pub fn put_plan(buffer: &mut [u8], n: u8, latency: u16, starts: [u16; 24], total: u32) -> usize
@@ -21,12 +20,10 @@ fn put_starts(buffer: &mut [u8], at: usize, n: u8, starts: [u16; 24]) -> usize
     requires { (n ≤ most_jobs) × (at + 9 * n ≤ length buffer.old) }
     ensures { (result ≡ at + 9 * n) × (buffer.new ≡ overwritten buffer.old at (start_lines n starts)) }
 {
-    let jobs = wide(n);
+    let jobs = usize::from(n);
     let mut next = at;
-    let mut i: usize = 0;
-    while i < jobs {
-        next = put_start(buffer, next, i as u8, starts[i]);
-        i = i + 1;
+    for (i, start) in starts[..jobs].iter().enumerate() {
+        next = put_start(buffer, next, i as u8, *start);
     }
     next
 }

@@ -4,35 +4,50 @@ ghost use Rattle.model.specs.Common.{accept};
 ghost use Rattle.model.specs.Limits.{most_jobs};
 ghost use Rattle.model.specs.Text.{plan_lines, plan_text, written};
 ghost use Rattle.frame_put.specs.Lines.{no_plan_line};
+ghost use Rattle.writing.specs.Answer.{answer_of};
 ghost use Rattle.writing.specs.Plan.{found_lines};
 
+use crate::answer::answer_of;
 use crate::plan::put_plan;
 use frame_put::put_no_plan;
-use model::{Search, Written, wide};
+use model::{Refusal, Search, Written};
 
 // The plan text of a record.
 pub fn write_plan(search: Search, buffer: &mut [u8]) -> Written
     ensures { (result, buffer.new) ≡ written (plan_text search) buffer.old }
 {
-    let sound = soundness::is_sound(search);
-    let ended = search.ended;
-    if !sound {
-        return Written::Refused(12);
+    answer_of(write_sound(search, buffer))
+}
+
+// The text of a sound record whose search has ended.
+fn write_sound(search: Search, buffer: &mut [u8]) -> Result<usize, Refusal>
+    ensures { (answer_of result, buffer.new) ≡ written (plan_text search) buffer.old }
+{
+    if !soundness::is_sound(search) {
+        return Err(Refusal::Unsound);
     }
-    if !ended {
-        return Written::Refused(15);
+    if !search.ended {
+        return Err(Refusal::Unended);
     }
-    let best = search.best;
-    let n = search.batch.n;
-    let starts = search.starts;
-    let total = search.total;
-    write_ended(best, n, starts, total, buffer)
+    write_ended(
+        search.best,
+        search.batch.n,
+        search.starts,
+        search.total,
+        buffer,
+    )
 }
 
 // The text of a search that has ended.
-fn write_ended(best: Option<u16>, n: u8, starts: [u16; 24], total: u32, buffer: &mut [u8]) -> Written
+fn write_ended(
+    best: Option<u16>,
+    n: u8,
+    starts: [u16; 24],
+    total: u32,
+    buffer: &mut [u8],
+) -> Result<usize, Refusal>
     requires { n ≤ most_jobs }
-    ensures { (result, buffer.new) ≡ written (accept (plan_lines best n starts total)) buffer.old }
+    ensures { (answer_of result, buffer.new) ≡ written (accept (plan_lines best n starts total)) buffer.old }
 {
     match best {
         None => write_no_plan(total, buffer),
@@ -41,25 +56,29 @@ fn write_ended(best: Option<u16>, n: u8, starts: [u16; 24], total: u32, buffer: 
 }
 
 // The text where there is a plan.
-fn write_found(n: u8, latency: u16, starts: [u16; 24], total: u32, buffer: &mut [u8]) -> Written
+fn write_found(
+    n: u8,
+    latency: u16,
+    starts: [u16; 24],
+    total: u32,
+    buffer: &mut [u8],
+) -> Result<usize, Refusal>
     requires { n ≤ most_jobs }
-    ensures { (result, buffer.new) ≡ written (accept (found_lines n latency starts total)) buffer.old }
+    ensures { (answer_of result, buffer.new) ≡ written (accept (found_lines n latency starts total)) buffer.old }
 {
-    let size = 19 + 9 * wide(n);
+    let size = 19 + 9 * usize::from(n);
     if buffer.len() < size {
-        return Written::Refused(16);
+        return Err(Refusal::ShortBuffer);
     }
-    let end = put_plan(buffer, n, latency, starts, total);
-    Written::Bytes(end)
+    Ok(put_plan(buffer, n, latency, starts, total))
 }
 
 // The text where there is none.
-fn write_no_plan(total: u32, buffer: &mut [u8]) -> Written
-    ensures { (result, buffer.new) ≡ written (accept (no_plan_line total)) buffer.old }
+fn write_no_plan(total: u32, buffer: &mut [u8]) -> Result<usize, Refusal>
+    ensures { (answer_of result, buffer.new) ≡ written (accept (no_plan_line total)) buffer.old }
 {
     if buffer.len() < 11 {
-        return Written::Refused(16);
+        return Err(Refusal::ShortBuffer);
     }
-    let end = put_no_plan(buffer, 0, total);
-    Written::Bytes(end)
+    Ok(put_no_plan(buffer, 0, total))
 }

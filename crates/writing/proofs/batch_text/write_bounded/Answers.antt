@@ -7,5 +7,5 @@ pub returns-then-buffer-size : goal.returns-then-buffer-size
 returns-then-buffer-size c = text_long _ _ (omega arith)
 
 pub returns : goal.returns
-returns c = let put = c.put_batch-end.ensures in
+returns c = let put = c.put_batch.ensures in
     text_fits _ _ (omega arith) put.0 put.1

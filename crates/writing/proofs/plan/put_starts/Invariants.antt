@@ -1,11 +1,7 @@
 -- Each turn of `put_starts` puts one start line behind those before it.
-use Prim.Native.Nat.{◌≤◌, ◌-◌}
 use Rattle.frame_put.proofs.Pieces.{Filled}
 use Rattle.writing.proofs.Texts.{start_piece}
 use Rattle.writing.proofs.plan.put_starts.Given as goal
 
 abbrev pub invariant-loop-i : goal.invariant-loop-i
-invariant-loop-i l = (l.i ≤ l.jobs) × Filled (start_piece l.starts) l.initial.buffer l.at l.i l.next l.buffer
-
-abbrev pub decreases-loop-i : goal.decreases-loop-i
-decreases-loop-i l = l.jobs - l.i
+invariant-loop-i l = Filled (start_piece l.fn.starts) l.initial.buffer l.at l.i l.next l.buffer

@@ -10,6 +10,6 @@ returns-then-buffer-size c = let args = c.args in
 
 pub returns : goal.returns
 returns c = let args = c.args in
-    let put = c.put_plan-end.ensures in
+    let put = c.put_plan.ensures in
     let size = found_length args.n args.latency args.starts args.total in
     text_fits _ _ (omega arith) (omega arith) put.1

@@ -8,6 +8,6 @@ pub returns-then-buffer-lt11 : goal.returns-then-buffer-lt11
 returns-then-buffer-lt11 c = text_long _ _ (omega (arith, no_plan_length c.args.total))
 
 pub returns : goal.returns
-returns c = let put = c.put_no_plan-end.ensures in
+returns c = let put = c.put_no_plan.ensures in
     let size = no_plan_length c.args.total in
     text_fits _ _ (omega arith) (omega arith) put.1

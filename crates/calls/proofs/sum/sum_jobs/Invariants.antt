@@ -1,9 +1,0 @@
--- `sum_jobs` takes one job a turn.
-use Prim.Native.Nat.{◌-◌}
-use Rattle.calls.proofs.sum.sum_jobs.Given as goal
-
-abbrev pub invariant-loop-i : goal.invariant-loop-i
-invariant-loop-i l = Unit {0}
-
-abbrev pub decreases-loop-i : goal.decreases-loop-i
-decreases-loop-i l = 24 - l.i
