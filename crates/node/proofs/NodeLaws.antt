@@ -1,74 +1,79 @@
--- One node over the arrays is one node of the definitions.
-use Prim.Native.Nat.{ℕ, zero, suc, ◌+◌, ◌-◌, ◌/◌}
+-- Going back over the arrays is going back of the definitions.
+use Prim.Native.Nat.{ℕ, suc, ◌+◌, ◌/◌}
 use mathlib.Core.Path.{◌≡◌, refl, ap, sym, ◌∙◌}
 use mathlib.Core.Bool.{true, false}
 use mathlib.Core.List.{List, []}
 use mathlib.Core.Option.{some}
 use native.Mathlib.Omega.{arith}
+use native.Mathlib.Numerals.{add-one}
 use lib.ListN.{get_or, set}
-use Rattle.model.specs.Best.{Best}
-use Rattle.std.specs.Prelude.{None, Some}
 use Rattle.model.specs.Common.{count}
 use Rattle.model.specs.Search.{turned_back, back_to, back}
 use Rattle.clashes.specs.First.{Named}
 use Rattle.weights.specs.Turn.{turn_from, turn_to, turn_code}
-use Rattle.node.specs.Walk.{turns_in, Path, Kin, Coded, Steps, back_as, bound_of, incumbent, place_at}
+use Rattle.node.specs.declared.kit.Kit.{Kit}
+use Rattle.node.specs.declared.kit.Trail.{Trail}
+use Rattle.node.specs.declared.kit.Walk.{Walk}
+use Rattle.node.specs.Walk.{turns_in, Path, Kin, Coded, Steps, back_as, incumbent, place_at}
 use Rattle.node.specs.Kit.{Returned}
 use Rattle.node.proofs.StepsLaws.{steps_more, steps_less}
-
--- some turns are left
-some_left : (turns : List ℕ) (left : ℕ) → (left ≡ 0 → ⊥) → some (turns_in turns left) ≡ back_as turns left
-unfolding back_as
-some_left turns zero h = absurd (h refl)
-some_left turns (suc left) h = refl
 
 empty_turns : (turns : List ℕ) → turns_in turns 0 ≡ []
 unfolding turns_in count
 empty_turns turns = refl
 
--- the place after going back, where `left` is the new depth
-module _ (turns turns₀ starts : List ℕ) (best : Best) (left depth : ℕ) (e : back_as turns left ≡ turned_back (turns_in turns₀ depth)) where
-  back_ended : left ≡ 0 → place_at turns (record { depth = left; best = best; starts = starts; ended = true }) ≡ back (turns_in turns₀ depth) (incumbent best starts)
+-- some turns are left
+some_left : (turns : List ℕ) (last : ℕ) → some (turns_in turns (last + 1)) ≡ back_as turns (last + 1)
+unfolding back_as
+some_left turns last = rw (add-one last) refl
+
+module _ (kit : Kit) (t : Trail) (walk : Walk) (s : Steps kit.clashes.codes t.turns walk.depth t.tail t.head t.gap) (turns : List ℕ) where
+  -- the trail with these turns
+  abbrev with_turns : Trail
+  with_turns = record { turns = turns; tail = t.tail; head = t.head; gap = t.gap; rows = t.rows; tags = t.tags; latencies = t.latencies }
+
+  -- no turn is left
+  back_ended : back_as turns 0 ≡ turned_back (turns_in t.turns walk.depth)
+      → place_at turns (record { depth = 0; best = walk.best; starts = walk.starts; ended = true }) ≡ back (turns_in t.turns walk.depth) (incumbent walk.best walk.starts)
   unfolding place_at back back_to back_as
-  back_ended h =
-      let g : back_as turns 0 ≡ turned_back (turns_in turns₀ depth) = ap (back_as turns) (sym h) ∙ e in
-      rw (h, empty_turns turns) (ap (back_to (incumbent best starts)) g)
+  back_ended e = rw (empty_turns turns) (ap (back_to (incumbent walk.best walk.starts)) e)
 
-  back_on : (left ≡ 0 → ⊥) → place_at turns (record { depth = left; best = best; starts = starts; ended = false }) ≡ back (turns_in turns₀ depth) (incumbent best starts)
-  unfolding place_at back back_to
-  back_on h = ap (back_to (incumbent best starts)) (some_left turns left h) ∙ ap (back_to (incumbent best starts)) e
+  pub returned_ended : (back_as turns 0 ≡ turned_back (turns_in t.turns walk.depth)) × (Path turns 0 × Kin t.turns walk.depth turns 0)
+      → Returned kit t walk with_turns (record { depth = 0; best = walk.best; starts = walk.starts; ended = true })
+  returned_ended g =
+      record {
+        place = back_ended g.0;
+        path = g.1.0;
+        kin = g.1.1;
+        steps = steps_less kit.clashes.codes t.turns turns t.tail t.head t.gap walk.depth 0 s g.1.1.less (λ i l. absurd (omega arith));
+        rows = refl;
+        tags = refl;
+        latencies = refl;
+      }
 
-  -- ---- with the turns and their inequalities
+  -- one that is set to side 1 is the last
+  module _ (last : ℕ) (g : (back_as turns (last + 1) ≡ turned_back (turns_in t.turns walk.depth)) × (Path turns (last + 1) × Kin t.turns walk.depth turns (last + 1))) where
+    back_on : place_at turns (record { depth = last + 1; best = walk.best; starts = walk.starts; ended = false }) ≡ back (turns_in t.turns walk.depth) (incumbent walk.best walk.starts)
+    unfolding place_at back back_to
+    back_on = ap (back_to (incumbent walk.best walk.starts)) (some_left turns last) ∙ ap (back_to (incumbent walk.best walk.starts)) g.0
 
-  module _ (codes tail head gap : List ℕ) (p : Path turns left) (k : Kin turns₀ depth turns left) (s : Steps codes turns₀ depth tail head gap) where
-    pub returned_ended : left ≡ 0 → Returned codes turns₀ depth best starts turns tail head gap (record { depth = left; best = best; starts = starts; ended = true })
-    returned_ended h =
-        record { place = back_ended h; path = p; kin = k; steps = steps_less codes turns₀ turns tail head gap depth left s k.less (λ i l. absurd (omega arith)) }
-
-    pub returned_on : (left ≡ 0 → ⊥) → (last c x : ℕ) (tail' head' gap' : List ℕ) → last ≡ left - 1 → x ≡ get_or turns last 0 → c ≡ x / 2
-        → (tail' ≡ set tail last (turn_from (get_or codes c 0) x)) × ((head' ≡ set head last (turn_to (get_or codes c 0) x)) × (gap' ≡ set gap last (turn_code (get_or codes c 0) x)))
-        → Returned codes turns₀ depth best starts turns tail' head' gap' (record { depth = left; best = best; starts = starts; ended = false })
-    returned_on h last c x tail' head' gap' a q r g =
-        let z : left ≡ last + 1 = omega arith in
+    pub returned_on : (c x : ℕ) (tail' head' gap' : List ℕ) → x ≡ get_or turns last 0 → c ≡ x / 2
+        → (tail' ≡ set t.tail last (turn_from (get_or kit.clashes.codes c 0) x)) × ((head' ≡ set t.head last (turn_to (get_or kit.clashes.codes c 0) x)) × (gap' ≡ set t.gap last (turn_code (get_or kit.clashes.codes c 0) x)))
+        → Returned kit t walk (record { turns = turns; tail = tail'; head = head'; gap = gap'; rows = t.rows; tags = t.tags; latencies = t.latencies }) (record { depth = last + 1; best = walk.best; starts = walk.starts; ended = false })
+    returned_on c x tail' head' gap' q r f =
         record {
-          place = back_on h;
-          path = p;
-          kin = k;
-          steps = rw z
-              (steps_more codes turns tail head gap tail' head' gap' last c x
-              (steps_less codes turns₀ turns tail head gap depth last s (omega (arith, k.less)) (λ i l. k.same i (omega arith)))
-              (omega (arith, p.deep)) q r g);
+          place = back_on;
+          path = g.1.0;
+          kin = g.1.1;
+          steps =
+              steps_more kit.clashes.codes turns t.tail t.head t.gap tail' head' gap' last c x
+              (steps_less kit.clashes.codes t.turns turns t.tail t.head t.gap walk.depth last s (omega (arith, g.1.1.less)) (λ i l. g.1.1.same i (omega arith)))
+              (omega (arith, g.1.0.deep)) q r f;
+          rows = refl;
+          tags = refl;
+          latencies = refl;
         }
 
 -- the turn that was set to side 1 is on a clash whose code names jobs
-pub returned_named : (codes turns₀ turns : List ℕ) (depth left c : ℕ) → Coded codes turns₀ depth → Kin turns₀ depth turns left → (left ≡ 0 → ⊥) → c ≡ get_or turns (left - 1) 0 / 2 → Named (get_or codes c 0)
-returned_named codes turns₀ turns depth left c g k h e = rw (e ∙ k.clash (left - 1) (omega arith)) (g.named (left - 1) (omega (arith, k.less)))
-
--- the bound of best
-pub bound_none : (best : Best) → best ≡ None → 43017 ≡ bound_of best
-unfolding bound_of
-bound_none best e = sym (ap bound_of e)
-
-pub bound_some : (best : Best) (k : ℕ) → best ≡ Some k → k ≡ bound_of best
-unfolding bound_of
-bound_some best k e = sym (ap bound_of e)
+pub returned_named : (codes turns₀ turns : List ℕ) (depth last c : ℕ) → Coded codes turns₀ depth → Kin turns₀ depth turns (last + 1) → c ≡ get_or turns last 0 / 2 → Named (get_or codes c 0)
+returned_named codes turns₀ turns depth last c g k e = rw (e ∙ k.clash last (omega arith)) (g.named last (omega (arith, k.less)))

@@ -13,6 +13,7 @@ use Rattle.model.specs.declared.Delay.{Delay}
 use Rattle.model.specs.declared.Turn.{Turn}
 use Rattle.model.specs.Best.{Best}
 use Rattle.std.specs.Prelude.{None, Some}
+use Rattle.std.specs.Option.{unwrap_or}
 use Rattle.model.specs.Common.{pad}
 use Rattle.model.specs.Batch.{earliest_starts, latest_starts}
 use Rattle.model.specs.Plan.{latency}
@@ -37,14 +38,26 @@ use Rattle.starts.proofs.PlaceLaws.{Tabled}
 use Rattle.starts.proofs.FromLaws.{Came}
 use Rattle.starts.proofs.PathTable.{path_table}
 use Rattle.starts.proofs.Law.{path_tabled, came, found_below, found_least, lost_least}
-use Rattle.node.specs.declared.visit.Walk.{Walk}
-use Rattle.node.specs.declared.visit.Sizes.{Sizes}
+use Rattle.node.specs.declared.kit.Kit.{Kit}
+use Rattle.node.specs.declared.kit.Trail.{Trail}
+use Rattle.node.specs.declared.kit.Reach.{Reach}
+use Rattle.node.specs.declared.kit.Walk.{Walk}
 use Rattle.node.specs.Walk.{turns_in, bound_of, incumbent, place_at}
 use Rattle.node.specs.Rows.{begun, Base}
-use Rattle.node.specs.Kit.{Kit, Trail, Works, Least}
+use Rattle.node.specs.Kit.{Works, Least}
 use Rattle.node.proofs.PathLaws.{turns_length}
 use Rattle.node.proofs.BeginLaws.{Begins, begins}
 use Rattle.node.proofs.WorksLaws.{passes, good_turns, counts, bound_small, held, turn_stored, turns_held}
+
+-- the bound of best
+pub bound_is : (best : Best) → unwrap_or best 43017 ≡ bound_of best
+unfolding bound_of
+bound_is None = refl
+bound_is (Some k) = refl
+
+-- starts and their latency, as a node has them
+abbrev low : Reached → Reach
+low r = record { starts = r.starts; latency = r.latency }
 
 -- a latency below best's bound is not pruned
 below_kept : (best : Best) (l : ℕ) → l < bound_of best → prunes best l ≡ false
@@ -57,7 +70,7 @@ least_same : (tail head gap : List ℕ) (depth bound latency : ℕ) {n n' m m' :
     → least_of n m from to code tail head gap depth stays latest bound starts latency ≡ least_of n' m' from' to' code' tail head gap depth stays' latest' bound starts' latency
 least_same tail head gap depth bound latency a b c d e f g h = rw (a, b, c, d, e, f, g, h)
 
-module _ (b : Batch) (sizes : Sizes) (kit : Kit) (t : Trail) (walk : Walk) (w : Works b sizes kit t walk) where
+module _ (b : Batch) (kit : Kit) (t : Trail) (walk : Walk) (w : Works b kit t walk) where
   abbrev ts : List Turn
   ts = turns_in t.turns walk.depth
 
@@ -70,8 +83,8 @@ module _ (b : Batch) (sizes : Sizes) (kit : Kit) (t : Trail) (walk : Walk) (w : 
 
   tabled : Tabled b.n table qs
   tabled =
-      path_tabled b (clashes b) ts b.m walk.depth _ _ _ _ _ _ (counts b sizes kit t walk w).1 (counts b sizes kit t walk w).2 (sym (delays_length b)) (sym (turns_length t.turns walk.depth))
-      (held b sizes kit t walk w) (turns_held b sizes kit t walk w)
+      path_tabled b (clashes b) ts b.m walk.depth _ _ _ _ _ _ (counts b kit t walk w).1 (counts b kit t walk w).2 (sym (delays_length b)) (sym (turns_length t.turns walk.depth))
+      (held b kit t walk w) (turns_held b kit t walk w)
 
   inside : Inside b.n qs
   unfolding Inside
@@ -84,23 +97,23 @@ module _ (b : Batch) (sizes : Sizes) (kit : Kit) (t : Trail) (walk : Walk) (w : 
     where
       go : (best : Best) → walk.best ≡ best → visit (clashes b) b (place_at t.turns walk) (least_starts (earliest_starts b) (latest_starts b) qs) ≡ back ts (incumbent walk.best walk.starts)
       go None e =
-          let p = passes b sizes kit t walk w in
+          let p = passes b kit t walk w in
           ap (visit (clashes b) b (place_at t.turns walk))
-          (beyond_none b (fits b p) ts (good_named b ts (good_turns b sizes kit t walk w)) inside at u (omega (arith, h, ap bound_of e)))
+          (beyond_none b (fits b p) ts (good_named b ts (good_turns b kit t walk w)) inside at u (omega (arith, h, ap bound_of e)))
       go (Some k) e = stopped_back (clashes b) b (place_at t.turns walk) qs inside at u (rw e (le-leb k (latency b at) (omega (arith, h, ap bound_of e))))
 
   lost : starts_at (clashes b) b ts ≡ none → next (clashes b) b (place_at t.turns walk) ≡ back ts (incumbent walk.best walk.starts)
   unfolding next visit place_at
   lost e = ap (visit (clashes b) b (place_at t.turns walk)) e
 
-  first_latency : sizes.first ≡ latency_of kit.stays (earliest_read b) 24
+  first_latency : kit.first ≡ latency_of kit.stays (earliest_read b) 24
   first_latency = w.first ∙ ap (λ (l : List ℕ). latency_of kit.stays l 24) w.earliest
 
   -- what the node begins with
-  module _ (zero : List ℕ) (z : zero ≡ kit.earliest) (made : List ℕ × ℕ) (e : made ≡ begun t.rows t.tags t.latencies t.tail t.head t.gap walk.depth kit.stays sizes.first zero) where
-    begin : Begins b (counts b sizes kit t walk w).1 kit.stays t.turns t.rows t.tags t.latencies t.tail t.head t.gap sizes.first first_latency walk.depth made
+  module _ (made : List ℕ × ℕ) (e : made ≡ begun t.rows t.tags t.latencies t.tail t.head t.gap walk.depth kit.stays kit.first kit.earliest) where
+    begin : Begins b (counts b kit t walk w).1 kit.stays t.turns t.rows t.tags t.latencies t.tail t.head t.gap kit.first first_latency walk.depth made
     begin =
-        rw (e, z ∙ w.earliest) (begins b (counts b sizes kit t walk w).1 kit.stays t.turns t.rows t.tags t.latencies t.tail t.head t.gap sizes.first first_latency walk.depth w.stands.kept (turn_stored b sizes kit t walk w))
+        rw (e, ap (begun t.rows t.tags t.latencies t.tail t.head t.gap walk.depth kit.stays kit.first) w.earliest) (begins b (counts b kit t walk w).1 kit.stays t.turns t.rows t.tags t.latencies t.tail t.head t.gap kit.first first_latency walk.depth w.stands.kept (turn_stored b kit t walk w))
 
     base : Base b qs made.0
     base = begin.base
@@ -110,7 +123,7 @@ module _ (b : Batch) (sizes : Sizes) (kit : Kit) (t : Trail) (walk : Walk) (w : 
     begun_latency = begin.latency
 
     pub begun_long : length made.0 ≡ 24
-    begun_long = ap length base.padded ∙ pad_length 24 0 base.jobs (omega (arith, base.long, (counts b sizes kit t walk w).1))
+    begun_long = ap length base.padded ∙ pad_length 24 0 base.jobs (omega (arith, base.long, (counts b kit t walk w).1))
 
     first : made.1 ≡ latency_of (stays_read b) (pad 24 0 base.jobs) 24
     first = begun_latency ∙ ap (λ (p : List ℕ). latency_of p made.0 24) w.each_stays ∙ ap (λ (s : List ℕ). latency_of (stays_read b) s 24) base.padded
@@ -118,18 +131,18 @@ module _ (b : Batch) (sizes : Sizes) (kit : Kit) (t : Trail) (walk : Walk) (w : 
     -- at best's already
     pub gone_at_once : bound_of walk.best ≤ made.1 → next (clashes b) b (place_at t.turns walk) ≡ back ts (incumbent walk.best walk.starts)
     gone_at_once h =
-        gone base.jobs base.under (omega (arith, first, latency_padded b (counts b sizes kit t walk w).1 base.jobs base.long))
+        gone base.jobs base.under (omega (arith, first, latency_padded b (counts b kit t walk w).1 base.jobs base.long))
 
     module _ (bound : ℕ) (g : bound ≡ bound_of walk.best) (p : made.1 < bound) where
       limit : bound ≤ 43017
-      limit = omega (arith, bound_small b sizes kit t walk w)
+      limit = omega (arith, bound_small b kit t walk w)
 
       -- what the rounds leave
       abbrev reached : Reached
       reached = rounds_of table (stays_read b) ((b.n + 3) / 4) bound (pad 24 0 base.jobs) made.1 b.n
 
       abbrev all_came : Came qs base.jobs (stays_read b) bound b.n reached
-      all_came = came b (counts b sizes kit t walk w).1 table qs tabled base.jobs (stays_read b) base.long bound limit made.1 first p b.n
+      all_came = came b (counts b kit t walk w).1 table qs tabled base.jobs (stays_read b) base.long bound limit made.1 first p b.n
 
       abbrev ss : List ℕ
       ss = rounds qs base.jobs all_came.j
@@ -138,15 +151,15 @@ module _ (b : Batch) (sizes : Sizes) (kit : Kit) (t : Trail) (walk : Walk) (w : 
       long = rounds_length qs base.jobs all_came.j ∙ base.long
 
       last_is : reached.latency ≡ latency b ss
-      last_is = all_came.latency ∙ latency_padded b (counts b sizes kit t walk w).1 ss long
+      last_is = all_came.latency ∙ latency_padded b (counts b kit t walk w).1 ss long
 
       abbrev answer : Reached
       answer = timely (latest_read b) reached
 
-      found : answer.found ≡ true → Least b t walk reached.starts reached.latency
+      found : answer.found ≡ true → Least b t walk (low reached)
       unfolding starts_at timely
       found f =
-          let c = counts b sizes kit t walk w in
+          let c = counts b kit t walk w in
           let q = found_below b c.1 table qs tabled base.jobs (stays_read b) base.long bound limit made.1 first p (both reached.found _ f).0 in
           record {
             jobs = ss;
@@ -162,24 +175,24 @@ module _ (b : Batch) (sizes : Sizes) (kit : Kit) (t : Trail) (walk : Walk) (w : 
       not_found f = go (lost_least b c.1 table qs tabled base.jobs (stays_read b) base.long bound limit made.1 first p c.0 base.under f)
         where
           c : (1 ≤ b.n) × (b.n ≤ 24) × (b.m ≤ 128)
-          c = counts b sizes kit t walk w
+          c = counts b kit t walk w
 
           go : (least_starts (earliest_starts b) (latest_starts b) qs ≡ none) ⊎ (bound ≤ reached.latency) → next (clashes b) b (place_at t.turns walk) ≡ back ts (incumbent walk.best walk.starts)
           go (inl e) = lost e
           go (inr h) = gone ss (under_rounds (earliest_starts b) (latest_starts b) qs base.jobs base.under all_came.j) (omega (arith, last_is))
 
       -- the starts and the latency are those that the rounds leave
-      told_found : answer.found ≡ true → Least b t walk answer.starts answer.latency
+      told_found : answer.found ≡ true → Least b t walk (low answer)
       unfolding timely
       told_found f = found f
 
       -- what least_starts answers, over the arrays
-      is : (r : Reached) → r ≡ least_of sizes.jobs sizes.delays kit.from kit.to kit.code t.tail t.head t.gap walk.depth kit.stays kit.latest bound made.0 made.1 → r ≡ answer
+      is : (r : Reached) → r ≡ least_of kit.jobs kit.delays kit.weights.from kit.weights.to kit.weights.code t.tail t.head t.gap walk.depth kit.stays kit.latest bound made.0 made.1 → r ≡ answer
       unfolding least_of
       is r h = h ∙ least_same t.tail t.head t.gap walk.depth bound made.1 w.jobs w.few w.from w.to w.code w.each_stays w.latest base.padded
 
-      pub reaches : (r : Reached) → r ≡ least_of sizes.jobs sizes.delays kit.from kit.to kit.code t.tail t.head t.gap walk.depth kit.stays kit.latest bound made.0 made.1
-          → (r.found ≡ true → Least b t walk r.starts r.latency) × (r.found ≡ false → next (clashes b) b (place_at t.turns walk) ≡ back ts (incumbent walk.best walk.starts))
+      pub reaches : (r : Reached) → r ≡ least_of kit.jobs kit.delays kit.weights.from kit.weights.to kit.weights.code t.tail t.head t.gap walk.depth kit.stays kit.latest bound made.0 made.1
+          → (r.found ≡ true → Least b t walk (low r)) × (r.found ≡ false → next (clashes b) b (place_at t.turns walk) ≡ back ts (incumbent walk.best walk.starts))
       reaches r h =
-          subst (λ (x : Reached). (x.found ≡ true → Least b t walk x.starts x.latency) × (x.found ≡ false → next (clashes b) b (place_at t.turns walk) ≡ back ts (incumbent walk.best walk.starts)))
+          subst (λ (x : Reached). (x.found ≡ true → Least b t walk (low x)) × (x.found ≡ false → next (clashes b) b (place_at t.turns walk) ≡ back ts (incumbent walk.best walk.starts)))
           (sym (is r h)) (told_found, not_found)

@@ -1,7 +1,7 @@
 -- The cases of a node: what least starts, latency and the first met clash say together is the definitions' next place.
 use Rattle.std.specs.Prelude.{if◌then◌else◌}
 use Prim.Native.Nat.{ℕ, ◌+◌, ◌*◌, ◌/◌, ◌%◌, ◌≤◌, ◌<◌}
-use mathlib.Core.Path.{◌≡◌, refl, ap, sym, ◌∙◌}
+use mathlib.Core.Path.{◌≡◌, refl, ap, sym, subst, ◌∙◌}
 use mathlib.Core.Bool.{Bool, false}
 use mathlib.Core.List.{List, [], ◌∷◌, ◌++◌}
 use mathlib.Core.Option.{Option, none, some}
@@ -12,7 +12,7 @@ use lib.Seq.{get_or-set_same, get_or-set_other}
 use Rattle.model.specs.declared.Batch.{Batch}
 use Rattle.model.specs.declared.Turn.{Turn}
 use Rattle.model.specs.Best.{Best}
-use Rattle.std.specs.Prelude.{Some}
+use Rattle.std.specs.Prelude.{None, Some}
 use Rattle.model.specs.Common.{pad}
 use Rattle.model.specs.Batch.{earliest_starts, latest_starts}
 use Rattle.model.specs.Plan.{latency}
@@ -25,8 +25,6 @@ use Rattle.model.proofs.GoodLaws.{good_room}
 use Rattle.model.proofs.NodeLaws.{met_first, met_new, all_inside}
 use Rattle.model.proofs.GoodLaws.{good_named}
 use Rattle.model.proofs.SoundLaws.{fits}
-use Rattle.clashes.specs.declared.Met.{Met}
-use Rattle.clashes.specs.declared.Met.TheVariants as seen
 use Rattle.clashes.specs.First.{Named as NamedCode, Known, Unmet, met_of, first_code}
 use Rattle.clashes.proofs.ListedLaws.{list_fits, list_known, first_listed}
 use Rattle.pairs.specs.Pairs.{OfJobs, NoneMet}
@@ -35,25 +33,27 @@ use Rattle.times.specs.Latency.{latency_of}
 use Rattle.times.proofs.LatencyLaws.{latency_padded}
 use Rattle.weights.specs.Turn.{turn_from, turn_to, turn_code}
 use Rattle.rounds.proofs.RoundLaws.{below_small}
-use Rattle.node.specs.declared.visit.Walk.{Walk}
-use Rattle.node.specs.declared.visit.Sizes.{Sizes}
-use Rattle.node.specs.Walk.{turn_of, turns_in, incumbent, place_at}
+use Rattle.node.specs.declared.kit.Kit.{Kit}
+use Rattle.node.specs.declared.kit.Trail.{Trail}
+use Rattle.node.specs.declared.kit.Reach.{Reach}
+use Rattle.node.specs.declared.kit.Walk.{Walk}
+use Rattle.node.specs.Walk.{Kin, turn_of, turns_in, incumbent, place_at}
 use Rattle.node.specs.Rows.{Base}
-use Rattle.node.specs.Kit.{Kit, Trail, Stands, Works, Least, Returned}
+use Rattle.node.specs.Kit.{Stands, Works, Least, Returned}
 use Rattle.node.proofs.BackLaws.{turns_more, turns_set, path_set}
 use Rattle.node.proofs.PathLaws.{turns_length}
 use Rattle.node.proofs.StepsLaws.{steps_more, steps_less}
 use Rattle.node.proofs.RowsLaws.{kept_back, kept_more}
-use Rattle.node.proofs.WorksLaws.{passes, good, good_turns, counts, tables, few, list, clash_coded}
+use Rattle.node.proofs.WorksLaws.{passes, good, good_turns, counts, tables, few, clash_coded}
 
-met_none : (o : Option ℕ) → met_of o ≡ seen.Nothing → o ≡ none
+met_none : (o : Option ℕ) → met_of o ≡ None → o ≡ none
 unfolding met_of
 met_none none e = refl
-met_none (some k) e = let z : ◌≡◌ {A = ℕ} 0 1 = cc in absurd (omega arith)
+met_none (some k) e = absurd cc
 
-met_some : (o : Option ℕ) (k : ℕ) → met_of o ≡ seen.Clash k → o ≡ some k
+met_some : (o : Option ℕ) (k : ℕ) → met_of o ≡ Some k → o ≡ some k
 unfolding met_of
-met_some none k e = let z : ◌≡◌ {A = ℕ} 0 1 = cc in absurd (omega arith)
+met_some none k e = absurd cc
 met_some (some j) k e = let z : j ≡ k = cc in ap some z
 
 -- the turns with one of side 0 added
@@ -65,7 +65,7 @@ turn_added turns depth k h =
     ap (turns_in (set turns depth (2 * k))) (add-one depth) ∙ turns_more (set turns depth (2 * k)) depth
     ∙ rw (turns_set turns depth depth (2 * k) (omega arith), get_or-set_same turns depth (2 * k) 0 h, a, c)
 
-module _ (b : Batch) (sizes : Sizes) (kit : Kit) (t : Trail) (walk : Walk) (w : Works b sizes kit t walk) where
+module _ (b : Batch) (kit : Kit) (t : Trail) (walk : Walk) (w : Works b kit t walk) where
   abbrev ts : List Turn
   ts = turns_in t.turns walk.depth
 
@@ -74,29 +74,39 @@ module _ (b : Batch) (sizes : Sizes) (kit : Kit) (t : Trail) (walk : Walk) (w : 
 
   -- ---- what unmet and first_met ask
 
-  pub unmet_asks : OfJobs kit.pair sizes.pairs
+  pub unmet_asks : OfJobs kit.pair kit.pairs
   unmet_asks = w.paired.1.1.of_jobs
 
-  pub met_asks : (low : ℕ) (starts : List ℕ) → NoneMet kit.pair kit.held kit.end sizes.pairs starts low
-      → ((low ≤ sizes.clashes) × (sizes.clashes ≤ 1024)) × (Known kit.codes sizes.clashes × Unmet kit.codes starts low)
+  pub met_asks : (low : ℕ) (starts : List ℕ) → NoneMet kit.pair kit.held kit.end kit.pairs starts low
+      → ((low ≤ kit.clashes.count) × (kit.clashes.count ≤ 1024)) × (Known kit.clashes.codes kit.clashes.count × Unmet kit.clashes.codes starts low)
   met_asks low starts h =
-      let l = list b sizes kit t walk w in
-      let f = few b sizes kit t walk w in
-      let u = h kit.codes w.paired.0 w.paired.1.1 in (
+      let l = kit.clashes in
+      let f = few b kit t walk w in
+      let u = h kit.clashes.codes w.paired.0 w.paired.1.1 in (
         (omega (arith, u.1, w.paired.1.0), list_fits b l w.listed f),
-        (list_known b l w.listed f (tables b sizes kit t walk w), u.0),
+        (list_known b l w.listed f (tables b kit t walk w), u.0),
       )
 
   -- ---- gone back
 
-  pub stands_back : (best : Best) (starts turns' tail' head' gap' : List ℕ) (walk' : Walk) → Returned kit.codes t.turns walk.depth best starts turns' tail' head' gap' walk'
-      → Stands b kit (record { turns = turns'; tail = tail'; head = head'; gap = gap'; rows = t.rows; tags = t.tags; latencies = t.latencies }) walk'.depth
-  stands_back best starts turns' tail' head' gap' walk' r =
-      record { path = r.path; steps = r.steps; kept = kept_back b kit.stays t.turns turns' walk.depth walk'.depth _ _ _ w.stands.kept r.kin }
+  pub stands_back : (walk₁ : Walk) (t' : Trail) (walk' : Walk) → walk₁.depth ≡ walk.depth → Returned kit t walk₁ t' walk' → Stands b kit t' walk'.depth
+  stands_back walk₁ t' walk' e r =
+      record {
+        path = r.path;
+        steps = r.steps;
+        kept = rw (r.rows, r.tags, r.latencies)
+            (kept_back b kit.stays t.turns t'.turns walk.depth walk'.depth _ _ _ w.stands.kept (subst (λ (d : ℕ). Kin t.turns d t'.turns walk'.depth) e r.kin));
+      }
 
   -- ---- least starts below best
 
-  module _ (starts : List ℕ) (last : ℕ) (l : Least b t walk starts last) where
+  module _ (x : Reach) (l : Least b t walk x) where
+    abbrev starts : List ℕ
+    starts = x.starts
+
+    abbrev last : ℕ
+    last = x.latency
+
     abbrev ss : List ℕ
     ss = l.jobs
 
@@ -106,17 +116,17 @@ module _ (b : Batch) (sizes : Sizes) (kit : Kit) (t : Trail) (walk : Walk) (w : 
 
     base : Base b (inequalities (clashes b) b ts) starts
     unfolding starts_at
-    base = record { jobs = ss; long = long; padded = l.padded; under = under_least (earliest_starts b) (latest_starts b) _ (inside_ends b _ (all_inside b (fits b (passes b sizes kit t walk w)) ts (good_named b ts (good_turns b sizes kit t walk w)))) ss l.least }
+    base = record { jobs = ss; long = long; padded = l.padded; under = under_least (earliest_starts b) (latest_starts b) _ (inside_ends b _ (all_inside b (fits b (passes b kit t walk w)) ts (good_named b ts (good_turns b kit t walk w)))) ss l.least }
 
     -- their latency over the arrays
     exact : last ≡ latency_of kit.stays starts 24
     exact =
-        l.told ∙ sym (latency_padded b (counts b sizes kit t walk w).1 ss long) ∙ ap (λ (p : List ℕ). latency_of p (pad 24 0 ss) 24) (sym w.each_stays)
+        l.told ∙ sym (latency_padded b (counts b kit t walk w).1 ss long) ∙ ap (λ (p : List ℕ). latency_of p (pad 24 0 ss) 24) (sym w.each_stays)
         ∙ ap (λ (x : List ℕ). latency_of kit.stays x 24) (sym l.padded)
 
     small : Small starts 43016
     small =
-        below_small kit.stays starts last 43017 (ap length l.padded ∙ pad_length 24 0 ss (omega (arith, long, (counts b sizes kit t walk w).1))) exact (omega (arith, l.small)) (omega arith)
+        below_small kit.stays starts last 43017 (ap length l.padded ∙ pad_length 24 0 ss (omega (arith, long, (counts b kit t walk w).1))) exact (omega (arith, l.small)) (omega arith)
 
     -- ss is not cut off at best
     decided : next (clashes b) b place ≡ branch b place ss (first_met (clashes b) ss 0)
@@ -125,21 +135,21 @@ module _ (b : Batch) (sizes : Sizes) (kit : Kit) (t : Trail) (walk : Walk) (w : 
         ap (visit (clashes b) b place) l.least
         ∙ ap (λ (q : Bool). if q then back ts (incumbent walk.best walk.starts) else branch b place ss (first_met (clashes b) ss 0)) l.below
 
-    module _ (m : Met) (r : m ≡ first_code kit.codes sizes.clashes starts) where
+    module _ (m : Best) (r : m ≡ first_code kit.clashes.codes kit.clashes.count starts) where
       met_tells : m ≡ met_of (first_met (clashes b) ss 0)
       met_tells =
-          r ∙ first_listed b (list b sizes kit t walk w) w.listed (few b sizes kit t walk w) (tables b sizes kit t walk w)
+          r ∙ first_listed b kit.clashes w.listed (few b kit t walk w) (tables b kit t walk w)
           starts ss (λ i p. ap (λ (x : List ℕ). get_or x i 0) l.padded ∙ pad_at 24 0 ss i)
 
       -- no clash is met: best
-      pub visit_best : (q : Place) → m ≡ seen.Nothing → q ≡ back ts (incumbent (Some last) starts) → q ≡ next (clashes b) b place
+      pub visit_best : (q : Place) → m ≡ None → q ≡ back ts (incumbent (Some last) starts) → q ≡ next (clashes b) b place
       unfolding branch become_best place_at
       visit_best q u v =
           v ∙ ap (λ (k : ℕ). back ts (incumbent (Some k) starts)) l.told ∙ ap (λ (x : List ℕ). back ts (incumbent (Some (latency b ss)) x)) l.padded
           ∙ sym (decided ∙ ap (branch b place ss) (met_none _ (sym met_tells ∙ u)))
 
       -- a clash is met: one turn more
-      module _ (k : ℕ) (u : m ≡ seen.Clash k) where
+      module _ (k : ℕ) (u : m ≡ Some k) where
         met_is : first_met (clashes b) ss 0 ≡ some k
         met_is = met_some _ k (sym met_tells ∙ u)
 
@@ -149,13 +159,13 @@ module _ (b : Batch) (sizes : Sizes) (kit : Kit) (t : Trail) (walk : Walk) (w : 
         pub met_room : (k < 1024) × (walk.depth < 1024)
         unfolding place_at
         met_room =
-            let q = passes b sizes kit t walk w in
-            let gt = (good b sizes kit t walk w).turns in
+            let q = passes b kit t walk w in
+            let gt = (good b kit t walk w).turns in
             let room = good_room b ts k gt met_listed (met_new b (fits b q) ts (good_named b ts gt) ss l.least k met_is) in
-            (omega (arith, met_listed, few b sizes kit t walk w), omega (arith, room, few b sizes kit t walk w, turns_length t.turns walk.depth))
+            (omega (arith, met_listed, few b kit t walk w), omega (arith, room, few b kit t walk w, turns_length t.turns walk.depth))
 
-        pub met_coded : NamedCode (get_or kit.codes k 0)
-        met_coded = clash_coded b sizes kit t walk w k met_listed
+        pub met_coded : NamedCode (get_or kit.clashes.codes k 0)
+        met_coded = clash_coded b kit t walk w k met_listed
 
         pub visit_met : place_at (set t.turns walk.depth (2 * k)) (record { depth = walk.depth + 1; best = walk.best; starts = walk.starts; ended = false }) ≡ next (clashes b) b place
         unfolding branch place_at
@@ -164,15 +174,15 @@ module _ (b : Batch) (sizes : Sizes) (kit : Kit) (t : Trail) (walk : Walk) (w : 
             ∙ sym (decided ∙ ap (branch b place ss) met_is)
 
         -- the trail with the turn, its inequality and the node's row
-        pub stands_more : (c x tag : ℕ) (tail' head' gap' : List ℕ) → c ≡ k → x ≡ 2 * k → tag ≡ walk.depth
-            → (tail' ≡ set t.tail walk.depth (turn_from (get_or kit.codes c 0) x)) × ((head' ≡ set t.head walk.depth (turn_to (get_or kit.codes c 0) x)) × (gap' ≡ set t.gap walk.depth (turn_code (get_or kit.codes c 0) x)))
-            → Stands b kit (record { turns = set t.turns walk.depth x; tail = tail'; head = head'; gap = gap'; rows = set t.rows (walk.depth % 32) starts; tags = set t.tags (walk.depth % 32) tag; latencies = set t.latencies (walk.depth % 32) last }) (walk.depth + 1)
-        stands_more c x tag tail' head' gap' p q g e =
+        pub stands_more : (c turn tag : ℕ) (tail' head' gap' : List ℕ) → c ≡ k → turn ≡ 2 * k → tag ≡ walk.depth
+            → (tail' ≡ set t.tail walk.depth (turn_from (get_or kit.clashes.codes c 0) turn)) × ((head' ≡ set t.head walk.depth (turn_to (get_or kit.clashes.codes c 0) turn)) × (gap' ≡ set t.gap walk.depth (turn_code (get_or kit.clashes.codes c 0) turn)))
+            → Stands b kit (record { turns = set t.turns walk.depth turn; tail = tail'; head = head'; gap = gap'; rows = set t.rows (walk.depth % 32) starts; tags = set t.tags (walk.depth % 32) tag; latencies = set t.latencies (walk.depth % 32) last }) (walk.depth + 1)
+        stands_more c turn tag tail' head' gap' p q g e =
             record {
-              path = path_set t.turns (walk.depth + 1) walk.depth x w.stands.path met_room.1 refl (omega (arith, met_room.0));
+              path = path_set t.turns (walk.depth + 1) walk.depth turn w.stands.path met_room.1 refl (omega (arith, met_room.0));
               steps =
-                  steps_more kit.codes (set t.turns walk.depth x) t.tail t.head t.gap tail' head' gap' walk.depth c x
-                  (steps_less kit.codes t.turns (set t.turns walk.depth x) t.tail t.head t.gap walk.depth walk.depth w.stands.steps (omega arith) (λ i h. get_or-set_other t.turns walk.depth i x 0 (λ z. omega arith)))
-                  met_room.1 (sym (get_or-set_same t.turns walk.depth x 0 (omega (arith, w.stands.path.full, met_room.1)))) (omega arith) e;
-              kept = rw g (kept_more b kit.stays t.turns walk.depth x t.rows t.tags t.latencies starts last w.stands.kept small l.small exact base);
+                  steps_more kit.clashes.codes (set t.turns walk.depth turn) t.tail t.head t.gap tail' head' gap' walk.depth c turn
+                  (steps_less kit.clashes.codes t.turns (set t.turns walk.depth turn) t.tail t.head t.gap walk.depth walk.depth w.stands.steps (omega arith) (λ i h. get_or-set_other t.turns walk.depth i turn 0 (λ z. omega arith)))
+                  met_room.1 (sym (get_or-set_same t.turns walk.depth turn 0 (omega (arith, w.stands.path.full, met_room.1)))) (omega arith) e;
+              kept = rw g (kept_more b kit.stays t.turns walk.depth turn t.rows t.tags t.latencies starts last w.stands.kept small l.small exact base);
             }

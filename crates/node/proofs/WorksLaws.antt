@@ -43,10 +43,11 @@ use Rattle.weights.proofs.TurnLaws.{clash_named, turn_side}
 use Rattle.weights.proofs.SoundLaws.{delays_length, holds_read}
 use Rattle.starts.specs.Table.{Placed}
 use Rattle.starts.proofs.HeldLaws.{held_placed}
-use Rattle.node.specs.declared.visit.Walk.{Walk}
-use Rattle.node.specs.declared.visit.Sizes.{Sizes}
+use Rattle.node.specs.declared.kit.Kit.{Kit}
+use Rattle.node.specs.declared.kit.Trail.{Trail}
+use Rattle.node.specs.declared.kit.Walk.{Walk}
 use Rattle.node.specs.Walk.{turn_of, turns_in, Path, Coded, bound_of, place_at}
-use Rattle.node.specs.Kit.{Kit, Trail, Works}
+use Rattle.node.specs.Kit.{Works}
 use Rattle.node.proofs.PathLaws.{turns_length}
 
 -- ---- the place
@@ -138,7 +139,7 @@ module _ (b : Batch) (turns : List ℕ) (walk : Walk) (path : Path turns walk.de
 
 -- ---- the arrays
 
-module _ (b : Batch) (sizes : Sizes) (kit : Kit) (t : Trail) (walk : Walk) (w : Works b sizes kit t walk) where
+module _ (b : Batch) (kit : Kit) (t : Trail) (walk : Walk) (w : Works b kit t walk) where
   -- the turns, and how many there are
   abbrev turns : List ℕ
   turns = t.turns
@@ -165,9 +166,6 @@ module _ (b : Batch) (sizes : Sizes) (kit : Kit) (t : Trail) (walk : Walk) (w : 
   pub few : length (clashes b) ≤ 1024
   few = (fits b passes).few
 
-  abbrev pub list : Clashes
-  list = record { count = sizes.clashes; codes = kit.codes }
-
   pub small_stays : Small kit.stays 16
   small_stays = rw w.each_stays (passing_stays b passes)
 
@@ -181,7 +179,7 @@ module _ (b : Batch) (sizes : Sizes) (kit : Kit) (t : Trail) (walk : Walk) (w : 
   pub held : Holds b.n (delays_of b) (delays_read b).from (delays_read b).to (delays_read b).code
   held = holds_read b counts.2 passes.jobs_each passes.weight_each
 
-  pub delays_placed : Placed kit.from kit.to sizes.delays
+  pub delays_placed : Placed kit.weights.from kit.weights.to kit.delays
   delays_placed =
       let d = delays_read b in
       rw (w.from, w.to, w.few)
@@ -189,11 +187,11 @@ module _ (b : Batch) (sizes : Sizes) (kit : Kit) (t : Trail) (walk : Walk) (w : 
 
   -- ---- turns
 
-  pub clash_coded : (k : ℕ) → k < length (clashes b) → NamedCode (get_or kit.codes k 0)
-  clash_coded = place_coded b turns walk w.stands.path w.is_sound list w.listed
+  pub clash_coded : (k : ℕ) → k < length (clashes b) → NamedCode (get_or kit.clashes.codes k 0)
+  clash_coded = place_coded b turns walk w.stands.path w.is_sound kit.clashes w.listed
 
-  pub coded_turns : Coded kit.codes turns depth
-  coded_turns = turns_coded b turns walk w.stands.path w.is_sound list w.listed
+  pub coded_turns : Coded kit.clashes.codes turns depth
+  coded_turns = turns_coded b turns walk w.stands.path w.is_sound kit.clashes w.listed
 
   -- the inequality of turn k, as it is stored
   pub turn_stored : (k : ℕ) → k < depth
@@ -204,7 +202,7 @@ module _ (b : Batch) (sizes : Sizes) (kit : Kit) (t : Trail) (walk : Walk) (w : 
   turn_stored k h =
       let s = w.stands.steps in
       let x = get_or turns k 0 in
-      let e = list_code b list w.listed few (x / 2) (named b turns walk w.stands.path w.is_sound k h) in
+      let e = list_code b kit.clashes w.listed few (x / 2) (named b turns walk w.stands.path w.is_sound k h) in
       let r = turn_side b.n counts.1 (get_or (clashes b) (x / 2) no_clash) (clash_fits b turns walk w.stands.path w.is_sound (x / 2) (named b turns walk w.stands.path w.is_sound k h)) (x % 2) x (omega arith) refl in
       (r.1.1.1, (s.from k h ∙ rw e r.0, (s.to k h ∙ rw e r.1.0, s.code k h ∙ rw e r.1.1.0)))
 

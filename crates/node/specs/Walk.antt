@@ -1,14 +1,13 @@
 -- A path as the code holds it while a search runs: an array of numbers, of which the first `depth` are turns, 2 * clash + side each.
-use Rattle.std.specs.Prelude.{ℕ, zero, suc, ◌/◌, ◌%◌, ◌≤◌, ◌<◌, ◌≡◌, List, map, get_or, length}
-use Rattle.std.proofs.Math.Option.{Option, none, some}
+use Rattle.std.specs.Prelude.{ℕ, zero, suc, ◌+◌, ◌/◌, ◌%◌, ◌≤◌, ◌<◌, ◌≡◌, List, map, get_or, length, Option, None, Some}
+use Rattle.std.proofs.Math.Option.{Option as Found, none, some}
 use Rattle.model.specs.declared.Turn.{Turn}
 use Rattle.model.specs.Best.{Best}
-use Rattle.std.specs.Prelude.{None, Some}
 use Rattle.model.specs.Common.{count}
 use Rattle.model.specs.Search.{Incumbent, Place}
 use Rattle.clashes.specs.First.{Named}
 use Rattle.weights.specs.Turn.{turn_from, turn_to, turn_code}
-use Rattle.node.specs.declared.visit.Walk.{Walk}
+use Rattle.node.specs.declared.kit.Walk.{Walk}
 
 -- the turn of a number
 unfoldable pub turn_of : ℕ → Turn
@@ -30,8 +29,13 @@ pub record Kin (turns : List ℕ) (depth : ℕ) (turns' : List ℕ) (left : ℕ)
   pub same : (k : ℕ) → suc k < left → get_or turns' k 0 ≡ get_or turns k 0
   pub clash : (k : ℕ) → suc k ≡ left → get_or turns' k 0 / 2 ≡ get_or turns k 0 / 2
 
+-- how many turns are left where the last of them stands here
+abbrev pub left_of : Option ℕ → ℕ
+left_of None = 0
+left_of (Some last) = last + 1
+
 -- what is left after going back: none at depth 0
-unfoldable pub back_as : List ℕ → ℕ → Option (List Turn)
+unfoldable pub back_as : List ℕ → ℕ → Found (List Turn)
 back_as turns zero = none
 back_as turns (suc d) = some (turns_in turns (suc d))
 

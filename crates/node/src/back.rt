@@ -1,22 +1,20 @@
 // Going back (backtracking): turns of side 1 are dropped from the end, and the last turn left is set to side 1.
 ghost use Rattle.std.specs.Prelude.{◌≡◌};
-ghost use Rattle.node.specs.Walk.{Path, Kin, back_as, turns_in};
 ghost use Rattle.model.specs.Search.{turned_back};
+ghost use Rattle.node.specs.Walk.{Path, Kin, back_as, left_of, turns_in};
 
-// The new depth, 0 if no turn is left. A turn is the number 2 * clash + side.
-pub fn go_back(turns: &mut [u16; 1024], depth: usize) -> usize
+// Where the turn stands that was set to side 1, if one is left. A turn is the number 2 * clash + side.
+// rposition would say it in one call: tried, and the proof didn't close (its clause counts from the end).
+pub fn go_back(turns: &mut [u16; 1024], depth: usize) -> Option<usize>
     requires { Path turns.old depth }
-    ensures { (back_as turns.new result ≡ turned_back (turns_in turns.old depth)) × (Path turns.new result × Kin turns.old depth turns.new result) }
+    ensures { (back_as turns.new (left_of result) ≡ turned_back (turns_in turns.old depth)) × (Path turns.new (left_of result) × Kin turns.old depth turns.new (left_of result)) }
 {
-    let mut left = depth;
-    while left > 0 {
-        let last = left - 1;
+    for last in (0..depth).rev() {
         let turn = turns[last];
         if turn % 2 == 0 {
             turns[last] = turn + 1;
-            return left;
+            return Some(last);
         }
-        left = last;
     }
-    0
+    None
 }

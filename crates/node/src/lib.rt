@@ -2,5 +2,8 @@
 #![tactic(auto)]
 
 mod back;
+mod kit;
 mod rows;
 pub mod visit;
+
+pub use kit::{Kit, Trail, Walk};

@@ -6,41 +6,34 @@ ghost use Rattle.times.specs.Fill.{Small};
 ghost use Rattle.starts.specs.Table.{Placed};
 ghost use Rattle.node.specs.Rows.{SmallRing, begun};
 
-use model::{wide, wide16};
-use times::latency::{larger, minus, stay_wide};
+use crate::kit::{Kit, Reach, Trail};
 
-// The starts that a node at this depth begins with, given the earliest starts, and their latency: its parent's raised by its last turn, if its parent's row is
-// there, and else the earliest, with their latency.
-pub fn begin(
-    rows: &[[u16; 24]; 32],
-    tags: &[u16; 32],
-    latencies: &[u16; 32],
-    tail: &[u8; 1024],
-    head: &[u8; 1024],
-    gap: &[u16; 1024],
-    depth: usize,
-    stays: &[u8; 24],
-    first: u16,
-    starts: &mut [u16; 24],
-) -> u16
-    requires depth_bound { (depth ≤ 1024) × Placed tail.now head.now depth }
-    requires small { Small stays.now 16 × SmallRing rows.now latencies.now }
-    ensures { (starts.new, result) ≡ begun rows.now tags.now latencies.now tail.now head.now gap.now depth stays.now first starts.old }
+// The starts that a node at this depth begins with, and their latency: its parent's raised by its last turn, if its parent's row is there, and else the
+// earliest.
+pub fn begin(kit: &Kit, trail: &Trail, depth: usize) -> Reach
+    requires depth_bound { (depth ≤ 1024) × Placed trail.now.tail trail.now.head depth }
+    requires small { Small kit.now.stays 16 × SmallRing trail.now.rows trail.now.latencies }
+    ensures { (result.starts, result.latency) ≡ begun trail.now.rows trail.now.tags trail.now.latencies trail.now.tail trail.now.head trail.now.gap depth kit.now.stays kit.now.first kit.now.earliest }
 {
+    let first = Reach {
+        starts: kit.earliest,
+        latency: kit.first,
+    };
     if depth == 0 {
         return first;
     }
     let last = depth - 1;
     let place = last % 32;
-    if wide16(tags[place]) != last {
+    if usize::from(trail.tags[place]) != last {
         return first;
     }
-    let i = wide(tail[last]);
-    let j = wide(head[last]);
-    let old = rows[place];
-    let start = larger(old[j], minus(old[i] + 1000, gap[last]));
-    let mut new = old;
-    new[j] = start;
-    *starts = new;
-    larger(latencies[place], start + stay_wide(stays[j]))
+    let i = usize::from(trail.tail[last]);
+    let j = usize::from(trail.head[last]);
+    let mut starts = trail.rows[place];
+    let start = starts[j].max((starts[i] + 1000).saturating_sub(trail.gap[last]));
+    starts[j] = start;
+    Reach {
+        starts,
+        latency: trail.latencies[place].max(start + u16::from(kit.stays[j])),
+    }
 }

@@ -1,21 +1,23 @@
 -- `back::go_back` meets its contract. While turns of side 1 are dropped, what going back leaves of the rest is what it leaves of all.
-use mathlib.Core.Path.{refl}
+use Prim.Native.Nat.{◌+◌, ◌-◌}
+use mathlib.Core.Path.{◌≡◌, refl}
 use native.Mathlib.Omega.{arith}
 use borrow.Author.Rules.{rules}
 use Rattle.node.proofs.BackLaws.{last_small, dropped_all, drops, moves}
 use Rattle.node.proofs.back.go_back.Goals as goal
 
-pub loop-left-init : goal.loop-left-init
-loop-left-init c = (refl, search rules, refl)
+pub loop-last-init : goal.loop-last-init
+loop-last-init c = (refl, omega arith, refl)
 
 pub overflow_add-turns : goal.overflow_add-turns
-overflow_add-turns c = omega (arith, last_small _ _ c.requires _ _ c.loop-left.invariant (omega arith))
+overflow_add-turns c = omega (arith, last_small _ _ c.requires _ _ c.loop-last.invariant (omega arith))
 
 pub returns-then-turn-eq0 : goal.returns-then-turn-eq0
-returns-then-turn-eq0 c = moves _ _ c.requires _ _ c.loop-left.invariant (omega arith) (omega arith)
+returns-then-turn-eq0 c = let z : c.loop-last.last - 1 + 1 ≡ c.loop-last.last = omega arith in
+    rw z (moves _ _ c.requires _ _ c.loop-last.invariant (omega arith) (omega arith))
 
-pub loop-left-preserved : goal.loop-left-preserved
-loop-left-preserved c = drops _ _ c.requires _ _ c.loop-left.invariant (omega arith) (omega arith)
+pub loop-last-preserved : goal.loop-last-preserved
+loop-last-preserved c = drops _ _ c.requires _ _ c.loop-last.invariant (omega arith) (omega arith)
 
 pub returns : goal.returns
-returns c = dropped_all _ _ c.requires _ _ c.loop-left.invariant (omega arith)
+returns c = dropped_all _ _ c.requires _ _ c.loop-last.invariant (omega arith)

@@ -2,8 +2,5 @@
 use Rattle.node.proofs.BackLaws.{Dropping}
 use Rattle.node.proofs.back.go_back.Given as goal
 
-abbrev pub invariant-loop-left : goal.invariant-loop-left
-invariant-loop-left l = Dropping l.initial.turns l.depth l.turns l.left
-
-abbrev pub decreases-loop-left : goal.decreases-loop-left
-decreases-loop-left l = l.left
+abbrev pub invariant-loop-last : goal.invariant-loop-last
+invariant-loop-last l = Dropping l.initial.turns l.depth l.turns l.last

@@ -9,37 +9,37 @@ pub returns-then-depth-eq0 : goal.returns-then-depth-eq0
 returns-then-depth-eq0 c = begun_none _ _ _ _ _ _ _ _ _ _ c.if-depth-eq0.true
 
 -- no row is there
-pub returns-then-wide16-last : goal.returns-then-wide16-last
-returns-then-wide16-last c = begun_missed _ _ _ _ _ _ _ _ _ _ _ c.wide16.ensures.0 _ c.if-depth-eq0.false refl c.if-wide16-last.true
+pub returns-then-from-last : goal.returns-then-from-last
+returns-then-from-last c = begun_missed _ _ _ _ _ _ _ _ _ _ _ c.from.ensures _ c.if-depth-eq0.false refl c.if-from-last.true
 
 -- the last turn's jobs are below 24, and the row's starts are small
-pub bounds-old-j : goal.bounds-old-j
-bounds-old-j c = let a = c.args in omega (arith, c.wide-j.ensures.0, c.requires.depth_bound.1.to (a.depth - 1) (omega (arith, c.if-depth-eq0.false)))
+pub bounds-starts-j : goal.bounds-starts-j
+bounds-starts-j c = let a = c.args in omega (arith, c.from-j.ensures, c.requires.depth_bound.1.to (a.depth - 1) (omega (arith, c.if-depth-eq0.false)))
 
-pub bounds-old-i : goal.bounds-old-i
-bounds-old-i c = let a = c.args in omega (arith, c.wide-i.ensures.0, c.requires.depth_bound.1.from (a.depth - 1) (omega (arith, c.if-depth-eq0.false)))
+pub bounds-starts-i : goal.bounds-starts-i
+bounds-starts-i c = let a = c.args in omega (arith, c.from-i.ensures, c.requires.depth_bound.1.from (a.depth - 1) (omega (arith, c.if-depth-eq0.false)))
 
-pub overflow_add-old : goal.overflow_add-old
-overflow_add-old c = omega (arith, (c.requires.small.1.starts ((c.args.depth - 1) % 32)).each c.wide-i.result)
+pub overflow_add-starts : goal.overflow_add-starts
+overflow_add-starts c = omega (arith, (c.requires.small.1.starts ((c.args.depth - 1) % 32)).each c.from-i.result)
 
-pub bounds-new-j : goal.bounds-new-j
-bounds-new-j c = omega (arith, c.wide-j.ensures.0, c.requires.depth_bound.1.to (c.args.depth - 1) (omega (arith, c.if-depth-eq0.false)))
+pub bounds-starts-j-2 : goal.bounds-starts-j-2
+bounds-starts-j-2 c = let a = c.args in omega (arith, c.from-j.ensures, c.requires.depth_bound.1.to (a.depth - 1) (omega (arith, c.if-depth-eq0.false)))
 
-pub bounds-stays-j : goal.bounds-stays-j
-bounds-stays-j c = omega (arith, c.wide-j.ensures.0, c.requires.depth_bound.1.to (c.args.depth - 1) (omega (arith, c.if-depth-eq0.false)))
+pub bounds-kit-j : goal.bounds-kit-j
+bounds-kit-j c = let a = c.args in omega (arith, c.from-j.ensures, c.requires.depth_bound.1.to (a.depth - 1) (omega (arith, c.if-depth-eq0.false)))
 
 pub overflow_add-start : goal.overflow_add-start
 overflow_add-start c = let row = c.requires.small.1.starts ((c.args.depth - 1) % 32) in
     omega (
       arith,
-      c.stay_wide.ensures,
-      c.larger-start.ensures,
-      c.minus.ensures,
-      c.requires.small.0.each c.wide-j.result,
-      row.each c.wide-j.result,
-      row.each c.wide-i.result,
+      c.from-2.ensures,
+      c.max-start.ensures,
+      c.saturating_sub.ensures,
+      c.requires.small.0.each c.from-j.result,
+      row.each c.from-j.result,
+      row.each c.from-i.result,
     )
 
 -- the row, raised
 pub returns : goal.returns
-returns c = begun_raised _ _ _ _ _ _ _ _ _ _ _ c.wide16.ensures.0 _ c.if-depth-eq0.false refl c.if-wide16-last.false _ _ _ _ _ _ c.wide-i.ensures.0 c.wide-j.ensures.0 c.larger-start.ensures c.minus.ensures c.stay_wide.ensures c.larger.ensures
+returns c = begun_raised _ _ _ _ _ _ _ _ _ _ _ c.from.ensures _ c.if-depth-eq0.false refl c.if-from-last.false _ _ c.saturating_sub.result c.max-start.result c.from-2.result c.max.result c.from-i.ensures c.from-j.ensures (omega (arith, c.max-start.ensures)) c.saturating_sub.ensures c.from-2.ensures (omega (arith, c.max.ensures))

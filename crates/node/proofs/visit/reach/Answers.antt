@@ -1,32 +1,32 @@
 -- `visit::reach` meets its contract: a node that is at best's bound already goes back at once, and another where its rounds say so.
 use native.Mathlib.Omega.{arith}
-use Rattle.model.proofs.BoolLaws.{apart}
 use Rattle.node.proofs.ReachLaws.{begun_latency, begun_long, gone_at_once, reaches}
 use Rattle.node.proofs.WorksLaws.{counts, small_stays, bound_small, delays_placed, turns_placed}
 use Rattle.node.proofs.visit.reach.Goals as goal
 
-pub begin-first-requires : goal.begin-first-requires
-begin-first-requires c = let w = c.requires.ready.1 in record { depth_bound = (w.stands.path.deep, turns_placed _ _ _ _ _ w); small = (small_stays _ _ _ _ _ w, w.stands.kept.small) }
+pub begin-low-requires : goal.begin-low-requires
+begin-low-requires c = let w = c.requires.1 in record { depth_bound = (w.stands.path.deep, turns_placed _ _ _ _ w); small = (small_stays _ _ _ _ w, w.stands.kept.small) }
 
 -- at best's bound already
-pub returns-then-bound-first : goal.returns-then-bound-first
-returns-then-bound-first c = λ b w. (
-  λ e. apart e,
-  λ e. gone_at_once b _ _ _ _ w _ c.requires.starts_value _ c.begin-first.ensures (omega (arith, c.bound_of-bound.ensures, c.if-bound-first.true)),
-)
+pub returns-then-bound-low : goal.returns-then-bound-low
+returns-then-bound-low c = λ b w. gone_at_once b _ _ _ w _ c.begin-low.ensures (omega (arith, c.bound_of-bound.ensures, c.if-bound-low.true))
 
 pub least_starts-requires : goal.least_starts-requires
-least_starts-requires c = let w = c.requires.ready.1 in let n = counts _ _ _ _ _ w in record {
+least_starts-requires c = let w = c.requires.1 in let n = counts _ _ _ _ w in record {
   n_bound = (omega (arith, n.1, w.jobs), (omega (arith, n.2, w.few), w.stands.path.deep));
-  placed = delays_placed _ _ _ _ _ w;
-  placed_2 = turns_placed _ _ _ _ _ w;
-  small = (small_stays _ _ _ _ _ w, begun_long _ _ _ _ _ w _ c.requires.starts_value _ c.begin-first.ensures);
+  placed = delays_placed _ _ _ _ w;
+  placed_2 = turns_placed _ _ _ _ w;
+  small = (small_stays _ _ _ _ w, begun_long _ _ _ _ w _ c.begin-low.ensures);
   latency_value = (
-    begun_latency _ _ _ _ _ w _ c.requires.starts_value _ c.begin-first.ensures,
-    (omega (arith, c.if-bound-first.false), omega (arith, bound_small _ _ _ _ _ w, c.bound_of-bound.ensures)),
+    begun_latency _ _ _ _ w _ c.begin-low.ensures,
+    (omega (arith, c.if-bound-low.false), omega (arith, bound_small _ _ _ _ w, c.bound_of-bound.ensures)),
   );
 }
 
+pub returns-then-not-least_starts : goal.returns-then-not-least_starts
+returns-then-not-least_starts c = λ b w.
+    (reaches b _ _ _ w _ c.begin-low.ensures _ c.bound_of-bound.ensures (omega (arith, c.if-bound-low.false)) _ c.least_starts.ensures).1 c.if-not-least_starts.true
+
 pub returns : goal.returns
 returns c = λ b w.
-    reaches b _ _ _ _ w _ c.requires.starts_value _ c.begin-first.ensures _ c.bound_of-bound.ensures (omega (arith, c.if-bound-first.false)) _ c.least_starts.ensures
+    (reaches b _ _ _ w _ c.begin-low.ensures _ c.bound_of-bound.ensures (omega (arith, c.if-bound-low.false)) _ c.least_starts.ensures).0 c.if-not-least_starts.false
