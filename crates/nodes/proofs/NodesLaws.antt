@@ -13,10 +13,11 @@ use Rattle.model.specs.Sound.{sound}
 use Rattle.model.specs.Run.{counted}
 use Rattle.model.proofs.GoodLaws.{step_next}
 use Rattle.model.proofs.SoundLaws.{fits, SoundBest, sound_new, place_sound}
-use Rattle.node.specs.declared.visit.Walk.{Walk}
-use Rattle.node.specs.declared.visit.Sizes.{Sizes}
+use Rattle.node.specs.declared.kit.Kit.{Kit}
+use Rattle.node.specs.declared.kit.Trail.{Trail}
+use Rattle.node.specs.declared.kit.Walk.{Walk}
 use Rattle.node.specs.Walk.{Path, place_at}
-use Rattle.node.specs.Kit.{Kit, Trail, Works, Ready, Visited}
+use Rattle.node.specs.Kit.{Works, Ready, Visited}
 use Rattle.node.proofs.WorksLaws.{place_back, passes, good}
 
 nodes_none : (cs : List Clash) (s : Search) (k : ℕ) → k ≤ 0 → nodes_on cs k s ≡ s
@@ -57,30 +58,30 @@ ended_is : (b : Batch) (total : ℕ) (turns : List ℕ) (walk : Walk) {p : Bool}
 unfolding search_of place_at
 ended_is b total turns walk e = e
 
-module _ (sizes : Sizes) (kit : Kit) where
+module _ (kit : Kit) where
   -- what holds at the loop's test: whatever batch the arrays stood for at first, they stand for it, and the rest of the nodes leads where all lead
   abbrev pub Going : Trail → Walk → Tally → Trail → Walk → Tally → Type 0
   Going t₀ walk₀ tally₀ t walk tally =
       (tally.total + tally.left ≤ 100000000)
-      × ((b : Batch) → Works b sizes kit t₀ walk₀
-      → Works b sizes kit t walk
+      × ((b : Batch) → Works b kit t₀ walk₀
+      → Works b kit t walk
       × (nodes_on (clashes b) tally.left (search_of b tally.total (place_at t.turns walk)) ≡ nodes_on (clashes b) tally₀.left (search_of b tally₀.total (place_at t₀.turns walk₀))))
 
   -- one node more
   module _ (t₀ : Trail) (walk₀ : Walk) (tally₀ : Tally) (t : Trail) (walk : Walk) (tally : Tally) (g : Going t₀ walk₀ tally₀ t walk tally) where
-    pub still_ready : Ready sizes kit t₀ walk₀ → Ready sizes kit t walk
+    pub still_ready : Ready kit t₀ walk₀ → Ready kit t walk
     still_ready (b, w) = (b, (g.1 b w).0)
 
-    pub goes_on : (t' : Trail) (walk' : Walk) (tally' : Tally) → 0 < tally.left → walk.ended ≡ false → tally' ≡ counted tally → Visited sizes kit t walk t' walk' → Going t₀ walk₀ tally₀ t' walk' tally'
+    pub goes_on : (t' : Trail) (walk' : Walk) (tally' : Tally) → 0 < tally.left → walk.ended ≡ false → tally' ≡ counted tally → Visited kit t walk t' walk' → Going t₀ walk₀ tally₀ t' walk' tally'
     unfolding counted
     goes_on t' walk' tally' h e c v =
         (omega (arith, g.0, ap (λ (x : Tally). x.total) c, ap (λ (x : Tally). x.left) c), λ b w₀. (works b w₀, path b w₀))
       where
-        works : (b : Batch) → Works b sizes kit t₀ walk₀ → Works b sizes kit t' walk'
+        works : (b : Batch) → Works b kit t₀ walk₀ → Works b kit t' walk'
         works b w₀ =
             let w = (g.1 b w₀).0 in
             let n = v b w in
-            let p = passes b sizes kit t walk w in
+            let p = passes b kit t walk w in
             record {
               jobs = w.jobs;
               few = w.few;
@@ -97,10 +98,10 @@ module _ (sizes : Sizes) (kit : Kit) where
               is_sound =
                   ap (λ (q : Place). sound (search_of b 0 q)) n.0
                   ∙ place_sound b p 0 (next (clashes b) b (place_at t.turns walk)) (omega arith)
-                  (step_next b (fits b p) (SoundBest b) (sound_new b (fits b p)) (place_at t.turns walk) (good b sizes kit t walk w)).good;
+                  (step_next b (fits b p) (SoundBest b) (sound_new b (fits b p)) (place_at t.turns walk) (good b kit t walk w)).good;
             }
 
-        path : (b : Batch) (w₀ : Works b sizes kit t₀ walk₀) → nodes_on (clashes b) tally'.left (search_of b tally'.total (place_at t'.turns walk')) ≡ nodes_on (clashes b) tally₀.left (search_of b tally₀.total (place_at t₀.turns walk₀))
+        path : (b : Batch) (w₀ : Works b kit t₀ walk₀) → nodes_on (clashes b) tally'.left (search_of b tally'.total (place_at t'.turns walk')) ≡ nodes_on (clashes b) tally₀.left (search_of b tally₀.total (place_at t₀.turns walk₀))
         path b w₀ =
             let w = (g.1 b w₀).0 in
             ap (λ (x : Tally). nodes_on (clashes b) x.left (search_of b x.total (place_at t'.turns walk'))) c
@@ -113,8 +114,8 @@ module _ (sizes : Sizes) (kit : Kit) where
     abbrev Over : Batch → Type 0
     Over b = (search_of b tally.total (place_at t.turns walk) ≡ nodes_on (clashes b) tally₀.left (search_of b tally₀.total (place_at t₀.turns walk₀))) × Path t.turns walk.depth
 
-    pub stops : (b : Batch) → Works b sizes kit t₀ walk₀ → (walk.ended ≡ true) → Over b
+    pub stops : (b : Batch) → Works b kit t₀ walk₀ → (walk.ended ≡ true) → Over b
     stops b w₀ e = (sym (nodes_over (clashes b) (search_of b tally.total (place_at t.turns walk)) tally.left (ended_is b tally.total t.turns walk e)) ∙ (g.1 b w₀).1, (g.1 b w₀).0.stands.path)
 
-    pub used_up : (b : Batch) → Works b sizes kit t₀ walk₀ → (tally.left ≤ 0) → Over b
+    pub used_up : (b : Batch) → Works b kit t₀ walk₀ → (tally.left ≤ 0) → Over b
     used_up b w₀ e = (sym (nodes_none (clashes b) (search_of b tally.total (place_at t.turns walk)) tally.left e) ∙ (g.1 b w₀).1, (g.1 b w₀).0.stands.path)
