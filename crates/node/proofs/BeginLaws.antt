@@ -25,6 +25,7 @@ use Rattle.times.specs.Ends.{earliest_read}
 use Rattle.times.specs.Latency.{latency_of}
 use Rattle.times.proofs.LatencyLaws.{latency_set}
 use Rattle.times.proofs.EndsLaws.{earliest_is}
+use Rattle.weights.specs.declared.Weights.{Weights}
 use Rattle.weights.specs.Code.{coded, Fits}
 use Rattle.weights.proofs.CodeLaws.{coded_most, plus_coded}
 use Rattle.node.specs.Walk.{turn_of, turns_in}
@@ -85,7 +86,7 @@ module _ (b : Batch) (few : b.n ≤ 24) where
           under = under_more base.jobs base.long base.under;
         }
 
-  module _ (stays turns : List ℕ) (rows : List (List ℕ)) (tags latencies tail head gap : List ℕ) (latency₀ : ℕ) (l : latency₀ ≡ latency_of stays (earliest_read b) 24) where
+  module _ (stays turns : List ℕ) (rows : List (List ℕ)) (tags latencies : List ℕ) (steps : Weights 1024) (latency₀ : ℕ) (l : latency₀ ≡ latency_of stays (earliest_read b) 24) where
     -- what a node begins with
     pub record Begins (depth : ℕ) (made : List ℕ × ℕ) : Type 0 where
       pub base : Base b (inequalities (clashes b) b (turns_in turns depth)) made.0
@@ -99,8 +100,8 @@ module _ (b : Batch) (few : b.n ≤ 24) where
     last_of last = turned (clashes b) (turn_of (get_or turns last 0))
 
     begins_raised : (last : ℕ) → Base b (inequalities (clashes b) b (turns_in turns last)) (get_or rows (last % 32) []) → get_or latencies (last % 32) 0 ≡ latency_of stays (get_or rows (last % 32) []) 24
-        → Fits b.n (last_of last) → get_or tail last 0 ≡ (last_of last).from → get_or head last 0 ≡ (last_of last).to → get_or gap last 0 ≡ coded (last_of last).weight
-        → Begins (suc last) (raised_row (get_or rows (last % 32) []) (get_or latencies (last % 32) 0) (get_or tail last 0) (get_or head last 0) (get_or gap last 0) stays)
+        → Fits b.n (last_of last) → get_or steps.from last 0 ≡ (last_of last).from → get_or steps.to last 0 ≡ (last_of last).to → get_or steps.code last 0 ≡ coded (last_of last).weight
+        → Begins (suc last) (raised_row (get_or rows (last % 32) []) (get_or latencies (last % 32) 0) (get_or steps.from last 0) (get_or steps.to last 0) (get_or steps.code last 0) stays)
     unfolding raised_row raised_start
     begins_raised last base g f p q r =
         rw (p, q, r)
@@ -116,14 +117,14 @@ module _ (b : Batch) (few : b.n ≤ 24) where
         long = ap length base.padded ∙ pad_length 24 0 base.jobs (omega (arith, base.long))
 
     pub begins : (depth : ℕ) → Kept b stays turns depth rows tags latencies
-        → ((last : ℕ) → last < depth → Fits b.n (last_of last) × ((get_or tail last 0 ≡ (last_of last).from) × ((get_or head last 0 ≡ (last_of last).to) × (get_or gap last 0 ≡ coded (last_of last).weight))))
-        → Begins depth (begun rows tags latencies tail head gap depth stays latency₀ (earliest_read b))
+        → ((last : ℕ) → last < depth → Fits b.n (last_of last) × ((get_or steps.from last 0 ≡ (last_of last).from) × ((get_or steps.to last 0 ≡ (last_of last).to) × (get_or steps.code last 0 ≡ coded (last_of last).weight))))
+        → Begins depth (begun rows tags latencies steps depth stays latency₀ (earliest_read b))
     unfolding begun
     begins zero k s = begins_none 0
     begins (suc last) k s = go (eqb (get_or tags (last % 32) 0) last) refl
       where
         go : (p : Bool) → eqb (get_or tags (last % 32) 0) last ≡ p
-            → Begins (suc last) (if p then raised_row (get_or rows (last % 32) []) (get_or latencies (last % 32) 0) (get_or tail last 0) (get_or head last 0) (get_or gap last 0) stays else (earliest_read b, latency₀))
+            → Begins (suc last) (if p then raised_row (get_or rows (last % 32) []) (get_or latencies (last % 32) 0) (get_or steps.from last 0) (get_or steps.to last 0) (get_or steps.code last 0) stays else (earliest_read b, latency₀))
         go true e =
             let tagged = eqb-true (get_or tags (last % 32) 0) last e in
             let step = s last (omega arith) in

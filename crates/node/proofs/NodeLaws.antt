@@ -10,6 +10,7 @@ use lib.ListN.{get_or, set}
 use Rattle.model.specs.Common.{count}
 use Rattle.model.specs.Search.{turned_back, back_to, back}
 use Rattle.clashes.specs.First.{Named}
+use Rattle.weights.specs.declared.Weights.{Weights}
 use Rattle.weights.specs.Turn.{turn_from, turn_to, turn_code}
 use Rattle.node.specs.declared.kit.Kit.{Kit}
 use Rattle.node.specs.declared.kit.Trail.{Trail}
@@ -27,10 +28,10 @@ some_left : (turns : List ℕ) (last : ℕ) → some (turns_in turns (last + 1))
 unfolding back_as
 some_left turns last = rw (add-one last) refl
 
-module _ (kit : Kit) (t : Trail) (walk : Walk) (s : Steps kit.clashes.codes t.turns walk.depth t.tail t.head t.gap) (turns : List ℕ) where
+module _ (kit : Kit) (t : Trail) (walk : Walk) (s : Steps kit.clashes.codes t.turns walk.depth t.steps) (turns : List ℕ) where
   -- the trail with these turns
   abbrev with_turns : Trail
-  with_turns = record { turns = turns; tail = t.tail; head = t.head; gap = t.gap; rows = t.rows; tags = t.tags; latencies = t.latencies }
+  with_turns = record { turns = turns; steps = t.steps; rows = t.rows; tags = t.tags; latencies = t.latencies }
 
   -- no turn is left
   back_ended : back_as turns 0 ≡ turned_back (turns_in t.turns walk.depth)
@@ -45,7 +46,7 @@ module _ (kit : Kit) (t : Trail) (walk : Walk) (s : Steps kit.clashes.codes t.tu
         place = back_ended g.0;
         path = g.1.0;
         kin = g.1.1;
-        steps = steps_less kit.clashes.codes t.turns turns t.tail t.head t.gap walk.depth 0 s g.1.1.less (λ i l. absurd (omega arith));
+        steps = steps_less kit.clashes.codes t.turns turns t.steps walk.depth 0 s g.1.1.less (λ i l. absurd (omega arith));
         rows = refl;
         tags = refl;
         latencies = refl;
@@ -57,17 +58,17 @@ module _ (kit : Kit) (t : Trail) (walk : Walk) (s : Steps kit.clashes.codes t.tu
     unfolding place_at back back_to
     back_on = ap (back_to (incumbent walk.best walk.starts)) (some_left turns last) ∙ ap (back_to (incumbent walk.best walk.starts)) g.0
 
-    pub returned_on : (c x : ℕ) (tail' head' gap' : List ℕ) → x ≡ get_or turns last 0 → c ≡ x / 2
-        → (tail' ≡ set t.tail last (turn_from (get_or kit.clashes.codes c 0) x)) × ((head' ≡ set t.head last (turn_to (get_or kit.clashes.codes c 0) x)) × (gap' ≡ set t.gap last (turn_code (get_or kit.clashes.codes c 0) x)))
-        → Returned kit t walk (record { turns = turns; tail = tail'; head = head'; gap = gap'; rows = t.rows; tags = t.tags; latencies = t.latencies }) (record { depth = last + 1; best = walk.best; starts = walk.starts; ended = false })
-    returned_on c x tail' head' gap' q r f =
+    pub returned_on : (c x : ℕ) (steps' : Weights 1024) → x ≡ get_or turns last 0 → c ≡ x / 2
+        → steps' ≡ record { from = set t.steps.from last (turn_from (get_or kit.clashes.codes c 0) x); to = set t.steps.to last (turn_to (get_or kit.clashes.codes c 0) x); code = set t.steps.code last (turn_code (get_or kit.clashes.codes c 0) x) }
+        → Returned kit t walk (record { turns = turns; steps = steps'; rows = t.rows; tags = t.tags; latencies = t.latencies }) (record { depth = last + 1; best = walk.best; starts = walk.starts; ended = false })
+    returned_on c x steps' q r f =
         record {
           place = back_on;
           path = g.1.0;
           kin = g.1.1;
           steps =
-              steps_more kit.clashes.codes turns t.tail t.head t.gap tail' head' gap' last c x
-              (steps_less kit.clashes.codes t.turns turns t.tail t.head t.gap walk.depth last s (omega (arith, g.1.1.less)) (λ i l. g.1.1.same i (omega arith)))
+              steps_more kit.clashes.codes turns t.steps steps' last c x
+              (steps_less kit.clashes.codes t.turns turns t.steps walk.depth last s (omega (arith, g.1.1.less)) (λ i l. g.1.1.same i (omega arith)))
               (omega (arith, g.1.0.deep)) q r f;
           rows = refl;
           tags = refl;

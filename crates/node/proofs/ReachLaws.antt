@@ -30,6 +30,7 @@ use Rattle.times.specs.Stays.{stays_read}
 use Rattle.times.specs.Latency.{latency_of}
 use Rattle.times.specs.Ends.{earliest_read, latest_read}
 use Rattle.times.proofs.LatencyLaws.{latency_padded}
+use Rattle.weights.specs.declared.Weights.{Weights}
 use Rattle.weights.specs.Delays.{delays_read}
 use Rattle.weights.proofs.SoundLaws.{delays_length}
 use Rattle.rounds.specs.Rounds.{Reached, rounds_of, timely}
@@ -66,9 +67,9 @@ below_kept None l h = refl
 below_kept (Some k) l h = lt-leb k l h
 
 -- the same answer for the same arrays
-least_same : (tail head gap : List ℕ) (depth bound latency : ℕ) {n n' m m' : ℕ} {from from' to to' code code' stays stays' latest latest' starts starts' : List ℕ} → n ≡ n' → m ≡ m' → from ≡ from' → to ≡ to' → code ≡ code' → stays ≡ stays' → latest ≡ latest' → starts ≡ starts'
-    → least_of n m from to code tail head gap depth stays latest bound starts latency ≡ least_of n' m' from' to' code' tail head gap depth stays' latest' bound starts' latency
-least_same tail head gap depth bound latency a b c d e f g h = rw (a, b, c, d, e, f, g, h)
+least_same : (steps : Weights 1024) (depth bound latency : ℕ) {n n' m m' : ℕ} {w w' : Weights 128} {stays stays' latest latest' starts starts' : List ℕ} → n ≡ n' → m ≡ m' → w ≡ w' → stays ≡ stays' → latest ≡ latest' → starts ≡ starts'
+    → least_of n m w steps depth stays latest bound starts latency ≡ least_of n' m' w' steps depth stays' latest' bound starts' latency
+least_same steps depth bound latency a b c f g h = rw (a, b, c, f, g, h)
 
 module _ (b : Batch) (kit : Kit) (t : Trail) (walk : Walk) (w : Works b kit t walk) where
   abbrev ts : List Turn
@@ -79,11 +80,11 @@ module _ (b : Batch) (kit : Kit) (t : Trail) (walk : Walk) (w : Works b kit t wa
 
   -- the node's table
   abbrev table : List (List ℕ)
-  table = path_table b.m (delays_read b).from (delays_read b).to (delays_read b).code t.tail t.head t.gap walk.depth
+  table = path_table b.m (delays_read b) t.steps walk.depth
 
   tabled : Tabled b.n table qs
   tabled =
-      path_tabled b (clashes b) ts b.m walk.depth _ _ _ _ _ _ (counts b kit t walk w).1 (counts b kit t walk w).2 (sym (delays_length b)) (sym (turns_length t.turns walk.depth))
+      path_tabled b (clashes b) ts b.m walk.depth _ _ (counts b kit t walk w).1 (counts b kit t walk w).2 (sym (delays_length b)) (sym (turns_length t.turns walk.depth))
       (held b kit t walk w) (turns_held b kit t walk w)
 
   inside : Inside b.n qs
@@ -110,10 +111,10 @@ module _ (b : Batch) (kit : Kit) (t : Trail) (walk : Walk) (w : Works b kit t wa
   first_latency = w.first ∙ ap (λ (l : List ℕ). latency_of kit.stays l 24) w.earliest
 
   -- what the node begins with
-  module _ (made : List ℕ × ℕ) (e : made ≡ begun t.rows t.tags t.latencies t.tail t.head t.gap walk.depth kit.stays kit.first kit.earliest) where
-    begin : Begins b (counts b kit t walk w).1 kit.stays t.turns t.rows t.tags t.latencies t.tail t.head t.gap kit.first first_latency walk.depth made
+  module _ (made : List ℕ × ℕ) (e : made ≡ begun t.rows t.tags t.latencies t.steps walk.depth kit.stays kit.first kit.earliest) where
+    begin : Begins b (counts b kit t walk w).1 kit.stays t.turns t.rows t.tags t.latencies t.steps kit.first first_latency walk.depth made
     begin =
-        rw (e, ap (begun t.rows t.tags t.latencies t.tail t.head t.gap walk.depth kit.stays kit.first) w.earliest) (begins b (counts b kit t walk w).1 kit.stays t.turns t.rows t.tags t.latencies t.tail t.head t.gap kit.first first_latency walk.depth w.stands.kept (turn_stored b kit t walk w))
+        rw (e, ap (begun t.rows t.tags t.latencies t.steps walk.depth kit.stays kit.first) w.earliest) (begins b (counts b kit t walk w).1 kit.stays t.turns t.rows t.tags t.latencies t.steps kit.first first_latency walk.depth w.stands.kept (turn_stored b kit t walk w))
 
     base : Base b qs made.0
     base = begin.base
@@ -187,11 +188,11 @@ module _ (b : Batch) (kit : Kit) (t : Trail) (walk : Walk) (w : Works b kit t wa
       told_found f = found f
 
       -- what least_starts answers, over the arrays
-      is : (r : Reached) → r ≡ least_of kit.jobs kit.delays kit.weights.from kit.weights.to kit.weights.code t.tail t.head t.gap walk.depth kit.stays kit.latest bound made.0 made.1 → r ≡ answer
+      is : (r : Reached) → r ≡ least_of kit.jobs kit.delays kit.weights t.steps walk.depth kit.stays kit.latest bound made.0 made.1 → r ≡ answer
       unfolding least_of
-      is r h = h ∙ least_same t.tail t.head t.gap walk.depth bound made.1 w.jobs w.few w.from w.to w.code w.each_stays w.latest base.padded
+      is r h = h ∙ least_same t.steps walk.depth bound made.1 w.jobs w.few w.weights w.each_stays w.latest base.padded
 
-      pub reaches : (r : Reached) → r ≡ least_of kit.jobs kit.delays kit.weights.from kit.weights.to kit.weights.code t.tail t.head t.gap walk.depth kit.stays kit.latest bound made.0 made.1
+      pub reaches : (r : Reached) → r ≡ least_of kit.jobs kit.delays kit.weights t.steps walk.depth kit.stays kit.latest bound made.0 made.1
           → (r.found ≡ true → Least b t walk (low r)) × (r.found ≡ false → next (clashes b) b (place_at t.turns walk) ≡ back ts (incumbent walk.best walk.starts))
       reaches r h =
           subst (λ (x : Reached). (x.found ≡ true → Least b t walk (low x)) × (x.found ≡ false → next (clashes b) b (place_at t.turns walk) ≡ back ts (incumbent walk.best walk.starts)))

@@ -16,15 +16,16 @@ use Rattle.model.proofs.SeqLaws.{listed_cong}
 use Rattle.times.specs.Fill.{Small}
 use Rattle.times.specs.Latency.{latency_of}
 use Rattle.times.proofs.FillLaws.{set_all, zeros_small}
+use Rattle.weights.specs.declared.Weights.{Weights}
 use Rattle.node.specs.Walk.{turn_of, turns_in, Kin}
 use Rattle.node.specs.Rows.{raised_start, raised_row, begun, Base, Kept}
 use Rattle.node.proofs.BackLaws.{turns_set}
 
 -- ---- the cases of the code
 
-module _ (rows : List (List ℕ)) (tags latencies tail head gap stays : List ℕ) (latency₀ : ℕ) (first : List ℕ) where
+module _ (rows : List (List ℕ)) (tags latencies : List ℕ) (steps : Weights 1024) (stays : List ℕ) (latency₀ : ℕ) (first : List ℕ) where
   abbrev Begun : ℕ → List ℕ → ℕ → Type 0
-  Begun depth starts latency = ◌≡◌ {A = List ℕ × ℕ} (starts, latency) (begun rows tags latencies tail head gap depth stays latency₀ first)
+  Begun depth starts latency = ◌≡◌ {A = List ℕ × ℕ} (starts, latency) (begun rows tags latencies steps depth stays latency₀ first)
 
   pub begun_none : (depth : ℕ) → depth ≡ 0 → Begun depth first latency₀
   unfolding begun
@@ -39,8 +40,8 @@ module _ (rows : List (List ℕ)) (tags latencies tail head gap stays : List ℕ
         let z : d ≡ last = omega arith in rw (z, ne_eqb (get_or tags (last % 32) 0) last (λ s. h (t ∙ s)))
 
     -- a row, raised by the last turn; the jobs, the larger sum and the latency are results of calls
-    pub begun_raised : (depth : ℕ) → (depth ≡ 0 → ⊥) → last ≡ depth - 1 → tag ≡ last → (i j x most wide latency : ℕ) → i ≡ get_or tail last 0 → j ≡ get_or head last 0
-        → most ≡ max (get_or (get_or rows (last % 32) []) j 0) x → x ≡ get_or (get_or rows (last % 32) []) i 0 + 1000 - get_or gap last 0 → wide ≡ get_or stays j 0
+    pub begun_raised : (depth : ℕ) → (depth ≡ 0 → ⊥) → last ≡ depth - 1 → tag ≡ last → (i j x most wide latency : ℕ) → i ≡ get_or steps.from last 0 → j ≡ get_or steps.to last 0
+        → most ≡ max (get_or (get_or rows (last % 32) []) j 0) x → x ≡ get_or (get_or rows (last % 32) []) i 0 + 1000 - get_or steps.code last 0 → wide ≡ get_or stays j 0
         → latency ≡ max (get_or latencies (last % 32) 0) (most + wide) → Begun depth (set (get_or rows (last % 32) []) j most) latency
     unfolding begun raised_row raised_start
     begun_raised zero more e h i j x most wide latency a b c s g l = absurd (more refl)

@@ -6,6 +6,7 @@ use native.Mathlib.Omega.{arith}
 use native.Mathlib.Decide.{ℕ_discrete}
 use lib.ListN.{length, get_or, set, replicate, length-set, length-replicate}
 use lib.Seq.{get_or-set_same, get_or-set_other}
+use Rattle.weights.specs.declared.Weights.{Weights}
 use Rattle.weights.specs.Turn.{turn_from, turn_to, turn_code}
 use Rattle.node.specs.Walk.{Steps}
 
@@ -19,22 +20,22 @@ place_more f codes turns array d c x h p q rest k l = go (ℕ_discrete k d)
     go (yes e) = rw (e, get_or-set_same array d (f (get_or codes c 0) x) 0 h, q, p)
     go (no e) = get_or-set_other array d k _ 0 e ∙ rest k (omega arith)
 
-pub steps_more : (codes turns tail head gap tail' head' gap' : List ℕ) (d c x : ℕ) → Steps codes turns d tail head gap → d < 1024 → x ≡ get_or turns d 0 → c ≡ x / 2
-    → (tail' ≡ set tail d (turn_from (get_or codes c 0) x)) × ((head' ≡ set head d (turn_to (get_or codes c 0) x)) × (gap' ≡ set gap d (turn_code (get_or codes c 0) x)))
-    → Steps codes turns (d + 1) tail' head' gap'
-steps_more codes turns tail head gap tail' head' gap' d c x s h p q e =
-    rw (e.0, e.1.0, e.1.1)
+pub steps_more : (codes turns : List ℕ) (w w' : Weights 1024) (d c x : ℕ) → Steps codes turns d w → d < 1024 → x ≡ get_or turns d 0 → c ≡ x / 2
+    → w' ≡ record { from = set w.from d (turn_from (get_or codes c 0) x); to = set w.to d (turn_to (get_or codes c 0) x); code = set w.code d (turn_code (get_or codes c 0) x) }
+    → Steps codes turns (d + 1) w'
+steps_more codes turns w w' d c x s h p q e =
+    rw e
     (record {
-      tails = length-set tail d _ ∙ s.tails;
-      heads = length-set head d _ ∙ s.heads;
-      gaps = length-set gap d _ ∙ s.gaps;
-      from = place_more turn_from codes turns tail d c x (omega (arith, s.tails)) p q s.from;
-      to = place_more turn_to codes turns head d c x (omega (arith, s.heads)) p q s.to;
-      code = place_more turn_code codes turns gap d c x (omega (arith, s.gaps)) p q s.code;
+      tails = length-set w.from d _ ∙ s.tails;
+      heads = length-set w.to d _ ∙ s.heads;
+      gaps = length-set w.code d _ ∙ s.gaps;
+      from = place_more turn_from codes turns w.from d c x (omega (arith, s.tails)) p q s.from;
+      to = place_more turn_to codes turns w.to d c x (omega (arith, s.heads)) p q s.to;
+      code = place_more turn_code codes turns w.code d c x (omega (arith, s.gaps)) p q s.code;
     })
 
 -- none yet
-pub steps_none : (codes turns : List ℕ) → Steps codes turns 0 (replicate 1024 0) (replicate 1024 0) (replicate 1024 0)
+pub steps_none : (codes turns : List ℕ) → Steps codes turns 0 (record { from = replicate 1024 0; to = replicate 1024 0; code = replicate 1024 0 })
 steps_none codes turns =
     record {
       tails = length-replicate {A = ℕ} 1024 0;
@@ -46,8 +47,8 @@ steps_none codes turns =
     }
 
 -- fewer of them, of turns that are the same so far
-pub steps_less : (codes turns turns' tail head gap : List ℕ) (d e : ℕ) → Steps codes turns d tail head gap → e ≤ d → ((k : ℕ) → k < e → get_or turns' k 0 ≡ get_or turns k 0) → Steps codes turns' e tail head gap
-steps_less codes turns turns' tail head gap d e s h same =
+pub steps_less : (codes turns turns' : List ℕ) (w : Weights 1024) (d e : ℕ) → Steps codes turns d w → e ≤ d → ((k : ℕ) → k < e → get_or turns' k 0 ≡ get_or turns k 0) → Steps codes turns' e w
+steps_less codes turns turns' w d e s h same =
     record {
       tails = s.tails;
       heads = s.heads;

@@ -31,6 +31,7 @@ use Rattle.pairs.specs.Pairs.{OfJobs, NoneMet}
 use Rattle.times.specs.Fill.{Small}
 use Rattle.times.specs.Latency.{latency_of}
 use Rattle.times.proofs.LatencyLaws.{latency_padded}
+use Rattle.weights.specs.declared.Weights.{Weights}
 use Rattle.weights.specs.Turn.{turn_from, turn_to, turn_code}
 use Rattle.rounds.proofs.RoundLaws.{below_small}
 use Rattle.node.specs.declared.kit.Kit.{Kit}
@@ -74,10 +75,10 @@ module _ (b : Batch) (kit : Kit) (t : Trail) (walk : Walk) (w : Works b kit t wa
 
   -- ---- what unmet and first_met ask
 
-  pub unmet_asks : OfJobs kit.pair kit.pairs
+  pub unmet_asks : OfJobs kit.pairs
   unmet_asks = w.paired.1.1.of_jobs
 
-  pub met_asks : (low : ℕ) (starts : List ℕ) → NoneMet kit.pair kit.held kit.end kit.pairs starts low
+  pub met_asks : (low : ℕ) (starts : List ℕ) → NoneMet kit.pairs starts low
       → ((low ≤ kit.clashes.count) × (kit.clashes.count ≤ 1024)) × (Known kit.clashes.codes kit.clashes.count × Unmet kit.clashes.codes starts low)
   met_asks low starts h =
       let l = kit.clashes in
@@ -174,15 +175,15 @@ module _ (b : Batch) (kit : Kit) (t : Trail) (walk : Walk) (w : Works b kit t wa
             ∙ sym (decided ∙ ap (branch b place ss) met_is)
 
         -- the trail with the turn, its inequality and the node's row
-        pub stands_more : (c turn tag : ℕ) (tail' head' gap' : List ℕ) → c ≡ k → turn ≡ 2 * k → tag ≡ walk.depth
-            → (tail' ≡ set t.tail walk.depth (turn_from (get_or kit.clashes.codes c 0) turn)) × ((head' ≡ set t.head walk.depth (turn_to (get_or kit.clashes.codes c 0) turn)) × (gap' ≡ set t.gap walk.depth (turn_code (get_or kit.clashes.codes c 0) turn)))
-            → Stands b kit (record { turns = set t.turns walk.depth turn; tail = tail'; head = head'; gap = gap'; rows = set t.rows (walk.depth % 32) starts; tags = set t.tags (walk.depth % 32) tag; latencies = set t.latencies (walk.depth % 32) last }) (walk.depth + 1)
-        stands_more c turn tag tail' head' gap' p q g e =
+        pub stands_more : (c turn tag : ℕ) (steps' : Weights 1024) → c ≡ k → turn ≡ 2 * k → tag ≡ walk.depth
+            → steps' ≡ record { from = set t.steps.from walk.depth (turn_from (get_or kit.clashes.codes c 0) turn); to = set t.steps.to walk.depth (turn_to (get_or kit.clashes.codes c 0) turn); code = set t.steps.code walk.depth (turn_code (get_or kit.clashes.codes c 0) turn) }
+            → Stands b kit (record { turns = set t.turns walk.depth turn; steps = steps'; rows = set t.rows (walk.depth % 32) starts; tags = set t.tags (walk.depth % 32) tag; latencies = set t.latencies (walk.depth % 32) last }) (walk.depth + 1)
+        stands_more c turn tag steps' p q g e =
             record {
               path = path_set t.turns (walk.depth + 1) walk.depth turn w.stands.path met_room.1 refl (omega (arith, met_room.0));
               steps =
-                  steps_more kit.clashes.codes (set t.turns walk.depth turn) t.tail t.head t.gap tail' head' gap' walk.depth c turn
-                  (steps_less kit.clashes.codes t.turns (set t.turns walk.depth turn) t.tail t.head t.gap walk.depth walk.depth w.stands.steps (omega arith) (λ i h. get_or-set_other t.turns walk.depth i turn 0 (λ z. omega arith)))
+                  steps_more kit.clashes.codes (set t.turns walk.depth turn) t.steps steps' walk.depth c turn
+                  (steps_less kit.clashes.codes t.turns (set t.turns walk.depth turn) t.steps walk.depth walk.depth w.stands.steps (omega arith) (λ i h. get_or-set_other t.turns walk.depth i turn 0 (λ z. omega arith)))
                   met_room.1 (sym (get_or-set_same t.turns walk.depth turn 0 (omega (arith, w.stands.path.full, met_room.1)))) (omega arith) e;
               kept = rw g (kept_more b kit.stays t.turns walk.depth turn t.rows t.tags t.latencies starts last w.stands.kept small l.small exact base);
             }

@@ -176,14 +176,14 @@ module _ (b : Batch) (kit : Kit) (t : Trail) (walk : Walk) (w : Works b kit t wa
 
   -- ---- delays
 
-  pub held : Holds b.n (delays_of b) (delays_read b).from (delays_read b).to (delays_read b).code
+  pub held : Holds b.n (delays_of b) (delays_read b)
   held = holds_read b counts.2 passes.jobs_each passes.weight_each
 
-  pub delays_placed : Placed kit.weights.from kit.weights.to kit.delays
+  pub delays_placed : Placed kit.weights kit.delays
   delays_placed =
-      let d = delays_read b in
-      rw (w.from, w.to, w.few)
-      (subst (Placed d.from d.to) (delays_length b) (held_placed b.n counts.1 (delays_of b) d.from d.to d.code held))
+      let p = held_placed b.n counts.1 (delays_of b) (delays_read b) held in
+      rw (w.weights, w.few)
+      (record { from = λ k h. p.from k (omega (arith, delays_length b)); to = λ k h. p.to k (omega (arith, delays_length b)) })
 
   -- ---- turns
 
@@ -196,8 +196,8 @@ module _ (b : Batch) (kit : Kit) (t : Trail) (walk : Walk) (w : Works b kit t wa
   -- the inequality of turn k, as it is stored
   pub turn_stored : (k : ℕ) → k < depth
       → Fits b.n (turned (clashes b) (turn_of (get_or turns k 0)))
-      × ((get_or t.tail k 0 ≡ (turned (clashes b) (turn_of (get_or turns k 0))).from)
-      × ((get_or t.head k 0 ≡ (turned (clashes b) (turn_of (get_or turns k 0))).to) × (get_or t.gap k 0 ≡ coded (turned (clashes b) (turn_of (get_or turns k 0))).weight)))
+      × ((get_or t.steps.from k 0 ≡ (turned (clashes b) (turn_of (get_or turns k 0))).from)
+      × ((get_or t.steps.to k 0 ≡ (turned (clashes b) (turn_of (get_or turns k 0))).to) × (get_or t.steps.code k 0 ≡ coded (turned (clashes b) (turn_of (get_or turns k 0))).weight)))
   unfolding turned turn_of
   turn_stored k h =
       let s = w.stands.steps in
@@ -206,7 +206,7 @@ module _ (b : Batch) (kit : Kit) (t : Trail) (walk : Walk) (w : Works b kit t wa
       let r = turn_side b.n counts.1 (get_or (clashes b) (x / 2) no_clash) (clash_fits b turns walk w.stands.path w.is_sound (x / 2) (named b turns walk w.stands.path w.is_sound k h)) (x % 2) x (omega arith) refl in
       (r.1.1.1, (s.from k h ∙ rw e r.0, (s.to k h ∙ rw e r.1.0, s.code k h ∙ rw e r.1.1.0)))
 
-  pub turns_held : Holds b.n (map (turned (clashes b)) (turns_in turns depth)) t.tail t.head t.gap
+  pub turns_held : Holds b.n (map (turned (clashes b)) (turns_in turns depth)) t.steps
   turns_held =
       record {
         from = λ k h. (turn_stored k (in_depth k h)).1.0 ∙ sym (ap (λ (q : Delay). q.from) (at k (in_depth k h)));
@@ -221,7 +221,7 @@ module _ (b : Batch) (kit : Kit) (t : Trail) (walk : Walk) (w : Works b kit t wa
       at : (k : ℕ) → k < depth → get_or (map (turned (clashes b)) (turns_in turns depth)) k blank_delay ≡ turned (clashes b) (turn_of (get_or turns k 0))
       at k h = mapped_at (turned (clashes b)) (turns_in turns depth) k blank_delay empty (omega (arith, turns_length turns depth)) ∙ ap (turned (clashes b)) (turn_at b turns walk w.stands.path w.is_sound k h)
 
-  pub turns_placed : Placed t.tail t.head depth
+  pub turns_placed : Placed t.steps depth
   turns_placed =
-      subst (Placed t.tail t.head) (length-map (turns_in turns depth) (turned (clashes b)) ∙ turns_length turns depth)
-      (held_placed b.n counts.1 (map (turned (clashes b)) (turns_in turns depth)) t.tail t.head t.gap turns_held)
+      subst (Placed t.steps) (length-map (turns_in turns depth) (turned (clashes b)) ∙ turns_length turns depth)
+      (held_placed b.n counts.1 (map (turned (clashes b)) (turns_in turns depth)) t.steps turns_held)

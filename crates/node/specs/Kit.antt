@@ -24,22 +24,20 @@ use Rattle.node.specs.Rows.{Kept}
 -- a trail of a batch's search at a depth
 pub record Stands (b : Batch) (kit : Kit) (t : Trail) (depth : ℕ) : Type 0 where
   pub path : Path t.turns depth
-  pub steps : Steps kit.clashes.codes t.turns depth t.tail t.head t.gap
+  pub steps : Steps kit.clashes.codes t.turns depth t.steps
   pub kept : Kept b kit.stays t.turns depth t.rows t.tags t.latencies
 
 -- they hold the batch's delays, stays, ends and clashes, and a sound place
 pub record Works (b : Batch) (kit : Kit) (t : Trail) (walk : Walk) : Type 0 where
   pub jobs : kit.jobs ≡ b.n
   pub few : kit.delays ≡ b.m
-  pub from : kit.weights.from ≡ (delays_read b).from
-  pub to : kit.weights.to ≡ (delays_read b).to
-  pub code : kit.weights.code ≡ heaviest_of b.m (delays_read b).from (delays_read b).to (delays_read b).code
+  pub weights : kit.weights ≡ record { from = (delays_read b).from; to = (delays_read b).to; code = heaviest_of b.m (delays_read b) }
   pub each_stays : kit.stays ≡ stays_read b
   pub earliest : kit.earliest ≡ earliest_read b
   pub latest : kit.latest ≡ latest_read b
   pub first : kit.first ≡ latency_of kit.stays kit.earliest 24
   pub listed : kit.clashes ≡ list_of b
-  pub paired : (n : ℕ) × ((n ≤ kit.clashes.count) × Paired kit.clashes.codes kit.pair kit.held kit.end kit.pairs n)
+  pub paired : (n : ℕ) × ((n ≤ kit.clashes.count) × Paired kit.clashes.codes kit.pairs n)
   pub stands : Stands b kit t walk.depth
   pub is_sound : sound (search_of b 0 (place_at t.turns walk)) ≡ true
 
@@ -67,7 +65,7 @@ pub record Returned (kit : Kit) (t : Trail) (walk : Walk) (t' : Trail) (walk' : 
   pub place : place_at t'.turns walk' ≡ back (turns_in t.turns walk.depth) (incumbent walk.best walk.starts)
   pub path : Path t'.turns walk'.depth
   pub kin : Kin t.turns walk.depth t'.turns walk'.depth
-  pub steps : Steps kit.clashes.codes t'.turns walk'.depth t'.tail t'.head t'.gap
+  pub steps : Steps kit.clashes.codes t'.turns walk'.depth t'.steps
   pub rows : t'.rows ≡ t.rows
   pub tags : t'.tags ≡ t.tags
   pub latencies : t'.latencies ≡ t.latencies

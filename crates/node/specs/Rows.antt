@@ -8,6 +8,7 @@ use Rattle.model.specs.Search.{inequalities}
 use Rattle.model.proofs.UnderLaws.{Below}
 use Rattle.times.specs.Fill.{Small}
 use Rattle.times.specs.Latency.{latency_of}
+use Rattle.weights.specs.declared.Weights.{Weights}
 use Rattle.node.specs.Walk.{turns_in}
 
 -- no start is above 43,016, and no latency
@@ -24,11 +25,11 @@ unfoldable pub raised_row : List ℕ → ℕ → ℕ → ℕ → ℕ → List �
 raised_row old latency i j code stays = (set old j (raised_start old i j code), max latency (raised_start old i j code + get_or stays j 0))
 
 -- the starts that a node at a depth begins with, and their latency: its parent's row, raised by its last turn, if that row is there
-unfoldable pub begun : List (List ℕ) → List ℕ → List ℕ → List ℕ → List ℕ → List ℕ → ℕ → List ℕ → ℕ → List ℕ → List ℕ × ℕ
-begun rows tags latencies tail head gap zero stays latency₀ first = (first, latency₀)
-begun rows tags latencies tail head gap (suc last) stays latency₀ first =
+unfoldable pub begun : List (List ℕ) → List ℕ → List ℕ → Weights 1024 → ℕ → List ℕ → ℕ → List ℕ → List ℕ × ℕ
+begun rows tags latencies steps zero stays latency₀ first = (first, latency₀)
+begun rows tags latencies steps (suc last) stays latency₀ first =
     if eqb (get_or tags (last % 32) 0) last
-    then raised_row (get_or rows (last % 32) []) (get_or latencies (last % 32) 0) (get_or tail last 0) (get_or head last 0) (get_or gap last 0) stays
+    then raised_row (get_or rows (last % 32) []) (get_or latencies (last % 32) 0) (get_or steps.from last 0) (get_or steps.to last 0) (get_or steps.code last 0) stays
     else (first, latency₀)
 
 -- an array of 24 starts of a batch's jobs, at or above the earliest and at or below every starts that keep these inequalities and the ends

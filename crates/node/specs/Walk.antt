@@ -6,6 +6,7 @@ use Rattle.model.specs.Best.{Best}
 use Rattle.model.specs.Common.{count}
 use Rattle.model.specs.Search.{Incumbent, Place}
 use Rattle.clashes.specs.First.{Named}
+use Rattle.weights.specs.declared.Weights.{Weights}
 use Rattle.weights.specs.Turn.{turn_from, turn_to, turn_code}
 use Rattle.node.specs.declared.kit.Walk.{Walk}
 
@@ -49,13 +50,13 @@ pub record Coded (codes turns : List ℕ) (depth : ℕ) : Type 0 where
   pub named : (k : ℕ) → k < depth → Named (get_or codes (get_or turns k 0 / 2) 0)
 
 -- the arrays of 1,024 places hold the inequalities of the first turns, as the table takes them
-pub record Steps (codes turns : List ℕ) (depth : ℕ) (tail head gap : List ℕ) : Type 0 where
-  pub tails : length tail ≡ 1024
-  pub heads : length head ≡ 1024
-  pub gaps : length gap ≡ 1024
-  pub from : (k : ℕ) → k < depth → get_or tail k 0 ≡ turn_from (get_or codes (get_or turns k 0 / 2) 0) (get_or turns k 0)
-  pub to : (k : ℕ) → k < depth → get_or head k 0 ≡ turn_to (get_or codes (get_or turns k 0 / 2) 0) (get_or turns k 0)
-  pub code : (k : ℕ) → k < depth → get_or gap k 0 ≡ turn_code (get_or codes (get_or turns k 0 / 2) 0) (get_or turns k 0)
+pub record Steps (codes turns : List ℕ) (depth : ℕ) (w : Weights 1024) : Type 0 where
+  pub tails : length w.from ≡ 1024
+  pub heads : length w.to ≡ 1024
+  pub gaps : length w.code ≡ 1024
+  pub from : (k : ℕ) → k < depth → get_or w.from k 0 ≡ turn_from (get_or codes (get_or turns k 0 / 2) 0) (get_or turns k 0)
+  pub to : (k : ℕ) → k < depth → get_or w.to k 0 ≡ turn_to (get_or codes (get_or turns k 0 / 2) 0) (get_or turns k 0)
+  pub code : (k : ℕ) → k < depth → get_or w.code k 0 ≡ turn_code (get_or codes (get_or turns k 0 / 2) 0) (get_or turns k 0)
 
 -- best with its starts, and the place where a search stands
 abbrev pub incumbent : Best → List ℕ → Incumbent

@@ -1,6 +1,7 @@
 // What a run works on: what stays as it is, what its nodes change, and where it stands.
 use clashes::Clashes;
-use weights::delays::Delays;
+use pairs::Pairs;
+use weights::Weights;
 
 // What does not change in a run: how many jobs and delays there are, the largest weight of each pair's delays, the jobs' stays and ends, the latency of the
 // earliest starts, the clashes' codes, and these by pairs of jobs.
@@ -8,16 +9,13 @@ use weights::delays::Delays;
 pub struct Kit {
     pub jobs: usize,
     pub delays: usize,
-    pub weights: Delays,
+    pub weights: Weights<128>,
     pub stays: [u8; 24],
     pub earliest: [u16; 24],
     pub latest: [u16; 24],
     pub first: u16,
     pub clashes: Clashes,
-    pub pair: [u16; 276],
-    pub held: [u64; 276],
-    pub end: [u16; 276],
-    pub pairs: usize,
+    pub pairs: Pairs,
 }
 
 // What does: the turns of the present path, their inequalities, and the rows of the nodes above. A row has the depth of its node as a tag and its latency
@@ -25,9 +23,7 @@ pub struct Kit {
 #[derive(Drop)]
 pub struct Trail {
     pub turns: [u16; 1024],
-    pub tail: [u8; 1024],
-    pub head: [u8; 1024],
-    pub gap: [u16; 1024],
+    pub steps: Weights<1024>,
     pub rows: [[u16; 24]; 32],
     pub tags: [u16; 32],
     pub latencies: [u16; 32],

@@ -11,9 +11,9 @@ use crate::kit::{Kit, Reach, Trail};
 // The starts that a node at this depth begins with, and their latency: its parent's raised by its last turn, if its parent's row is there, and else the
 // earliest.
 pub fn begin(kit: &Kit, trail: &Trail, depth: usize) -> Reach
-    requires depth_bound { (depth ≤ 1024) × Placed trail.now.tail trail.now.head depth }
+    requires depth_bound { (depth ≤ 1024) × Placed trail.now.steps depth }
     requires small { Small kit.now.stays 16 × SmallRing trail.now.rows trail.now.latencies }
-    ensures { (result.starts, result.latency) ≡ begun trail.now.rows trail.now.tags trail.now.latencies trail.now.tail trail.now.head trail.now.gap depth kit.now.stays kit.now.first kit.now.earliest }
+    ensures { (result.starts, result.latency) ≡ begun trail.now.rows trail.now.tags trail.now.latencies trail.now.steps depth kit.now.stays kit.now.first kit.now.earliest }
 {
     let first = Reach {
         starts: kit.earliest,
@@ -27,10 +27,10 @@ pub fn begin(kit: &Kit, trail: &Trail, depth: usize) -> Reach
     if usize::from(trail.tags[place]) != last {
         return first;
     }
-    let i = usize::from(trail.tail[last]);
-    let j = usize::from(trail.head[last]);
+    let i = usize::from(trail.steps.from[last]);
+    let j = usize::from(trail.steps.to[last]);
     let mut starts = trail.rows[place];
-    let start = starts[j].max((starts[i] + 1000).saturating_sub(trail.gap[last]));
+    let start = starts[j].max((starts[i] + 1000).saturating_sub(trail.steps.code[last]));
     starts[j] = start;
     Reach {
         starts,

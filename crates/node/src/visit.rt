@@ -32,12 +32,8 @@ fn reach(kit: &Kit, trail: &Trail, walk: Walk) -> Option<Reach>
     if !least_starts(
         kit.jobs,
         kit.delays,
-        &kit.weights.from,
-        &kit.weights.to,
-        &kit.weights.code,
-        &trail.tail,
-        &trail.head,
-        &trail.gap,
+        &kit.weights,
+        &trail.steps,
         walk.depth,
         &kit.stays,
         &kit.latest,
@@ -53,7 +49,7 @@ fn reach(kit: &Kit, trail: &Trail, walk: Walk) -> Option<Reach>
 // The search gone back with the walk's best, and the inequality of the turn that was set to side 1; if no turn is left, it has ended.
 fn gone_back(kit: &Kit, trail: &mut Trail, walk: Walk) -> Walk
     requires path { Path trail.old.turns walk.depth × Coded kit.now.clashes.codes trail.old.turns walk.depth }
-    requires steps { Steps kit.now.clashes.codes trail.old.turns walk.depth trail.old.tail trail.old.head trail.old.gap }
+    requires steps { Steps kit.now.clashes.codes trail.old.turns walk.depth trail.old.steps }
     ensures { Returned kit.now trail.old walk trail.new result }
 {
     let Walk {
@@ -72,14 +68,7 @@ fn gone_back(kit: &Kit, trail: &mut Trail, walk: Walk) -> Walk
     };
     let turn = trail.turns[last];
     let clash = kit.clashes.codes[usize::from(turn / 2)];
-    store_turn(
-        &mut trail.tail,
-        &mut trail.head,
-        &mut trail.gap,
-        last,
-        clash,
-        turn,
-    );
+    store_turn(&mut trail.steps, last, clash, turn);
     Walk {
         depth: last + 1,
         best,
@@ -103,7 +92,7 @@ pub fn visit(kit: &Kit, trail: &mut Trail, walk: Walk) -> Walk
         ended: _,
     } = walk;
     let Reach { starts, latency } = least;
-    let low = unmet(&kit.pair, &kit.held, &kit.end, kit.pairs, &starts);
+    let low = unmet(&kit.pairs, &starts);
     let met = first_met(&kit.clashes.codes, low, kit.clashes.count, &starts);
     let Some(clash) = met else {
         let better = Walk {
@@ -117,14 +106,7 @@ pub fn visit(kit: &Kit, trail: &mut Trail, walk: Walk) -> Walk
     let turn = 2 * clash;
     let code = kit.clashes.codes[usize::from(clash)];
     trail.turns[depth] = turn;
-    store_turn(
-        &mut trail.tail,
-        &mut trail.head,
-        &mut trail.gap,
-        depth,
-        code,
-        turn,
-    );
+    store_turn(&mut trail.steps, depth, code, turn);
     let place = depth % 32;
     trail.rows[place] = starts;
     trail.tags[place] = depth as u16;

@@ -6,11 +6,11 @@ use Rattle.node.proofs.RowsLaws.{begun_none, begun_missed, begun_raised}
 use Rattle.node.proofs.rows.begin.Goals as goal
 
 pub returns-then-depth-eq0 : goal.returns-then-depth-eq0
-returns-then-depth-eq0 c = begun_none _ _ _ _ _ _ _ _ _ _ c.if-depth-eq0.true
+returns-then-depth-eq0 c = begun_none _ _ _ _ _ _ _ _ c.if-depth-eq0.true
 
 -- no row is there
 pub returns-then-from-last : goal.returns-then-from-last
-returns-then-from-last c = begun_missed _ _ _ _ _ _ _ _ _ _ _ c.from.ensures _ c.if-depth-eq0.false refl c.if-from-last.true
+returns-then-from-last c = begun_missed _ _ _ _ _ _ _ _ _ c.from.ensures _ c.if-depth-eq0.false refl c.if-from-last.true
 
 -- the last turn's jobs are below 24, and the row's starts are small
 pub bounds-starts-j : goal.bounds-starts-j
@@ -42,4 +42,4 @@ overflow_add-start c = let row = c.requires.small.1.starts ((c.args.depth - 1) %
 
 -- the row, raised
 pub returns : goal.returns
-returns c = begun_raised _ _ _ _ _ _ _ _ _ _ _ c.from.ensures _ c.if-depth-eq0.false refl c.if-from-last.false _ _ c.saturating_sub.result c.max-start.result c.from-2.result c.max.result c.from-i.ensures c.from-j.ensures (omega (arith, c.max-start.ensures)) c.saturating_sub.ensures c.from-2.ensures (omega (arith, c.max.ensures))
+returns c = begun_raised _ _ _ _ _ _ _ _ _ c.from.ensures _ c.if-depth-eq0.false refl c.if-from-last.false _ _ c.saturating_sub.result c.max-start.result c.from-2.result c.max.result c.from-i.ensures c.from-j.ensures (omega (arith, c.max-start.ensures)) c.saturating_sub.ensures c.from-2.ensures (omega (arith, c.max.ensures))

@@ -64,5 +64,5 @@ returns c = let f = c.first_met-met.ensures in
     let k = c.in-Some-met.is in λ b w.
     let l = c.in-Some.ensures b w in (
       visit_met b _ _ _ w _ l _ f _ k,
-      stands_more b _ _ _ w _ l _ f _ k _ _ _ _ _ _ c.from.ensures refl refl c.store_turn.ensures,
+      stands_more b _ _ _ w _ l _ f _ k _ _ _ _ c.from.ensures refl refl c.store_turn.ensures,
     )
