@@ -28,8 +28,10 @@ use Rattle.times.proofs.EndsLaws.{earliest_is}
 use Rattle.weights.specs.declared.Weights.{Weights}
 use Rattle.weights.specs.Code.{coded, Fits}
 use Rattle.weights.proofs.CodeLaws.{coded_most, plus_coded}
+use Rattle.node.specs.declared.kit.Reach.{Reach}
+use Rattle.node.specs.declared.kit.Row.{Row}
 use Rattle.node.specs.Walk.{turn_of, turns_in}
-use Rattle.node.specs.Rows.{raised_start, raised_row, begun, Base, Kept}
+use Rattle.node.specs.Rows.{no_row, raised_start, raised_row, begun, Base, Kept}
 use Rattle.node.proofs.BackLaws.{turns_more}
 
 -- one start of a padded row
@@ -86,22 +88,26 @@ module _ (b : Batch) (few : b.n ≤ 24) where
           under = under_more base.jobs base.long base.under;
         }
 
-  module _ (stays turns : List ℕ) (rows : List (List ℕ)) (tags latencies : List ℕ) (steps : Weights 1024) (latency₀ : ℕ) (l : latency₀ ≡ latency_of stays (earliest_read b) 24) where
-    -- what a node begins with
-    pub record Begins (depth : ℕ) (made : List ℕ × ℕ) : Type 0 where
-      pub base : Base b (inequalities (clashes b) b (turns_in turns depth)) made.0
-      pub latency : made.1 ≡ latency_of stays made.0 24
+  module _ (stays turns : List ℕ) (rows : List Row) (steps : Weights 1024) (latency₀ : ℕ) (l : latency₀ ≡ latency_of stays (earliest_read b) 24) where
+    -- the earliest starts, as a node begins with them
+    abbrev first : Reach
+    first = record { starts = earliest_read b; latency = latency₀ }
 
-    begins_none : (depth : ℕ) → Begins depth (earliest_read b, latency₀)
+    -- what a node begins with
+    pub record Begins (depth : ℕ) (made : Reach) : Type 0 where
+      pub base : Base b (inequalities (clashes b) b (turns_in turns depth)) made.starts
+      pub latency : made.latency ≡ latency_of stays made.starts 24
+
+    begins_none : (depth : ℕ) → Begins depth first
     begins_none depth = record { base = base_none _; latency = l }
 
     -- the inequality of the last turn
     abbrev pub last_of : ℕ → Delay
     last_of last = turned (clashes b) (turn_of (get_or turns last 0))
 
-    begins_raised : (last : ℕ) → Base b (inequalities (clashes b) b (turns_in turns last)) (get_or rows (last % 32) []) → get_or latencies (last % 32) 0 ≡ latency_of stays (get_or rows (last % 32) []) 24
+    begins_raised : (last : ℕ) → Base b (inequalities (clashes b) b (turns_in turns last)) (get_or rows (last % 32) no_row).low.starts → (get_or rows (last % 32) no_row).low.latency ≡ latency_of stays (get_or rows (last % 32) no_row).low.starts 24
         → Fits b.n (last_of last) → get_or steps.from last 0 ≡ (last_of last).from → get_or steps.to last 0 ≡ (last_of last).to → get_or steps.code last 0 ≡ coded (last_of last).weight
-        → Begins (suc last) (raised_row (get_or rows (last % 32) []) (get_or latencies (last % 32) 0) (get_or steps.from last 0) (get_or steps.to last 0) (get_or steps.code last 0) stays)
+        → Begins (suc last) (raised_row (get_or rows (last % 32) no_row).low (get_or steps.from last 0) (get_or steps.to last 0) (get_or steps.code last 0) stays)
     unfolding raised_row raised_start
     begins_raised last base g f p q r =
         rw (p, q, r)
@@ -111,22 +117,22 @@ module _ (b : Batch) (few : b.n ≤ 24) where
         })
       where
         row : List ℕ
-        row = get_or rows (last % 32) []
+        row = (get_or rows (last % 32) no_row).low.starts
 
         long : length row ≡ 24
         long = ap length base.padded ∙ pad_length 24 0 base.jobs (omega (arith, base.long))
 
-    pub begins : (depth : ℕ) → Kept b stays turns depth rows tags latencies
+    pub begins : (depth : ℕ) → Kept b stays turns depth rows
         → ((last : ℕ) → last < depth → Fits b.n (last_of last) × ((get_or steps.from last 0 ≡ (last_of last).from) × ((get_or steps.to last 0 ≡ (last_of last).to) × (get_or steps.code last 0 ≡ coded (last_of last).weight))))
-        → Begins depth (begun rows tags latencies steps depth stays latency₀ (earliest_read b))
+        → Begins depth (begun rows steps depth stays first)
     unfolding begun
     begins zero k s = begins_none 0
-    begins (suc last) k s = go (eqb (get_or tags (last % 32) 0) last) refl
+    begins (suc last) k s = go (eqb (get_or rows (last % 32) no_row).tag last) refl
       where
-        go : (p : Bool) → eqb (get_or tags (last % 32) 0) last ≡ p
-            → Begins (suc last) (if p then raised_row (get_or rows (last % 32) []) (get_or latencies (last % 32) 0) (get_or steps.from last 0) (get_or steps.to last 0) (get_or steps.code last 0) stays else (earliest_read b, latency₀))
+        go : (p : Bool) → eqb (get_or rows (last % 32) no_row).tag last ≡ p
+            → Begins (suc last) (if p then raised_row (get_or rows (last % 32) no_row).low (get_or steps.from last 0) (get_or steps.to last 0) (get_or steps.code last 0) stays else first)
         go true e =
-            let tagged = eqb-true (get_or tags (last % 32) 0) last e in
+            let tagged = eqb-true (get_or rows (last % 32) no_row).tag last e in
             let step = s last (omega arith) in
             begins_raised last (k.under last (omega arith) tagged) (k.latency last (omega arith) tagged) step.0 step.1.0 step.1.1.0 step.1.1.1
         go false e = begins_none (suc last)

@@ -1,6 +1,6 @@
 -- Going back over the arrays is going back of the definitions.
-use Prim.Native.Nat.{ℕ, suc, ◌+◌, ◌/◌}
-use mathlib.Core.Path.{◌≡◌, refl, ap, sym, ◌∙◌}
+use Prim.Native.Nat.{ℕ, ◌+◌, ◌/◌}
+use mathlib.Core.Path.{◌≡◌, refl, ap, ◌∙◌}
 use mathlib.Core.Bool.{true, false}
 use mathlib.Core.List.{List, []}
 use mathlib.Core.Option.{some}
@@ -31,7 +31,7 @@ some_left turns last = rw (add-one last) refl
 module _ (kit : Kit) (t : Trail) (walk : Walk) (s : Steps kit.clashes.codes t.turns walk.depth t.steps) (turns : List ℕ) where
   -- the trail with these turns
   abbrev with_turns : Trail
-  with_turns = record { turns = turns; steps = t.steps; rows = t.rows; tags = t.tags; latencies = t.latencies }
+  with_turns = record { turns = turns; steps = t.steps; rows = t.rows }
 
   -- no turn is left
   back_ended : back_as turns 0 ≡ turned_back (turns_in t.turns walk.depth)
@@ -48,8 +48,6 @@ module _ (kit : Kit) (t : Trail) (walk : Walk) (s : Steps kit.clashes.codes t.tu
         kin = g.1.1;
         steps = steps_less kit.clashes.codes t.turns turns t.steps walk.depth 0 s g.1.1.less (λ i l. absurd (omega arith));
         rows = refl;
-        tags = refl;
-        latencies = refl;
       }
 
   -- one that is set to side 1 is the last
@@ -60,7 +58,7 @@ module _ (kit : Kit) (t : Trail) (walk : Walk) (s : Steps kit.clashes.codes t.tu
 
     pub returned_on : (c x : ℕ) (steps' : Weights 1024) → x ≡ get_or turns last 0 → c ≡ x / 2
         → steps' ≡ record { from = set t.steps.from last (turn_from (get_or kit.clashes.codes c 0) x); to = set t.steps.to last (turn_to (get_or kit.clashes.codes c 0) x); code = set t.steps.code last (turn_code (get_or kit.clashes.codes c 0) x) }
-        → Returned kit t walk (record { turns = turns; steps = steps'; rows = t.rows; tags = t.tags; latencies = t.latencies }) (record { depth = last + 1; best = walk.best; starts = walk.starts; ended = false })
+        → Returned kit t walk (record { turns = turns; steps = steps'; rows = t.rows }) (record { depth = last + 1; best = walk.best; starts = walk.starts; ended = false })
     returned_on c x steps' q r f =
         record {
           place = back_on;
@@ -71,8 +69,6 @@ module _ (kit : Kit) (t : Trail) (walk : Walk) (s : Steps kit.clashes.codes t.tu
               (steps_less kit.clashes.codes t.turns turns t.steps walk.depth last s (omega (arith, g.1.1.less)) (λ i l. g.1.1.same i (omega arith)))
               (omega (arith, g.1.0.deep)) q r f;
           rows = refl;
-          tags = refl;
-          latencies = refl;
         }
 
 -- the turn that was set to side 1 is on a clash whose code names jobs

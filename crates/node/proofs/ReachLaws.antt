@@ -111,39 +111,39 @@ module _ (b : Batch) (kit : Kit) (t : Trail) (walk : Walk) (w : Works b kit t wa
   first_latency = w.first ∙ ap (λ (l : List ℕ). latency_of kit.stays l 24) w.earliest
 
   -- what the node begins with
-  module _ (made : List ℕ × ℕ) (e : made ≡ begun t.rows t.tags t.latencies t.steps walk.depth kit.stays kit.first kit.earliest) where
-    begin : Begins b (counts b kit t walk w).1 kit.stays t.turns t.rows t.tags t.latencies t.steps kit.first first_latency walk.depth made
+  module _ (made : Reach) (e : made ≡ begun t.rows t.steps walk.depth kit.stays (record { starts = kit.earliest; latency = kit.first })) where
+    begin : Begins b (counts b kit t walk w).1 kit.stays t.turns t.rows t.steps kit.first first_latency walk.depth made
     begin =
-        rw (e, ap (begun t.rows t.tags t.latencies t.steps walk.depth kit.stays kit.first) w.earliest) (begins b (counts b kit t walk w).1 kit.stays t.turns t.rows t.tags t.latencies t.steps kit.first first_latency walk.depth w.stands.kept (turn_stored b kit t walk w))
+        rw (e, ap (λ (starts : List ℕ). begun t.rows t.steps walk.depth kit.stays (record { starts = starts; latency = kit.first })) w.earliest) (begins b (counts b kit t walk w).1 kit.stays t.turns t.rows t.steps kit.first first_latency walk.depth w.stands.kept (turn_stored b kit t walk w))
 
-    base : Base b qs made.0
+    base : Base b qs made.starts
     base = begin.base
 
     -- its latency is that of the arrays, and of the definitions
-    pub begun_latency : made.1 ≡ latency_of kit.stays made.0 24
+    pub begun_latency : made.latency ≡ latency_of kit.stays made.starts 24
     begun_latency = begin.latency
 
-    pub begun_long : length made.0 ≡ 24
+    pub begun_long : length made.starts ≡ 24
     begun_long = ap length base.padded ∙ pad_length 24 0 base.jobs (omega (arith, base.long, (counts b kit t walk w).1))
 
-    first : made.1 ≡ latency_of (stays_read b) (pad 24 0 base.jobs) 24
-    first = begun_latency ∙ ap (λ (p : List ℕ). latency_of p made.0 24) w.each_stays ∙ ap (λ (s : List ℕ). latency_of (stays_read b) s 24) base.padded
+    first : made.latency ≡ latency_of (stays_read b) (pad 24 0 base.jobs) 24
+    first = begun_latency ∙ ap (λ (p : List ℕ). latency_of p made.starts 24) w.each_stays ∙ ap (λ (s : List ℕ). latency_of (stays_read b) s 24) base.padded
 
     -- at best's already
-    pub gone_at_once : bound_of walk.best ≤ made.1 → next (clashes b) b (place_at t.turns walk) ≡ back ts (incumbent walk.best walk.starts)
+    pub gone_at_once : bound_of walk.best ≤ made.latency → next (clashes b) b (place_at t.turns walk) ≡ back ts (incumbent walk.best walk.starts)
     gone_at_once h =
         gone base.jobs base.under (omega (arith, first, latency_padded b (counts b kit t walk w).1 base.jobs base.long))
 
-    module _ (bound : ℕ) (g : bound ≡ bound_of walk.best) (p : made.1 < bound) where
+    module _ (bound : ℕ) (g : bound ≡ bound_of walk.best) (p : made.latency < bound) where
       limit : bound ≤ 43017
       limit = omega (arith, bound_small b kit t walk w)
 
       -- what the rounds leave
       abbrev reached : Reached
-      reached = rounds_of table (stays_read b) ((b.n + 3) / 4) bound (pad 24 0 base.jobs) made.1 b.n
+      reached = rounds_of table (stays_read b) ((b.n + 3) / 4) bound (pad 24 0 base.jobs) made.latency b.n
 
       abbrev all_came : Came qs base.jobs (stays_read b) bound b.n reached
-      all_came = came b (counts b kit t walk w).1 table qs tabled base.jobs (stays_read b) base.long bound limit made.1 first p b.n
+      all_came = came b (counts b kit t walk w).1 table qs tabled base.jobs (stays_read b) base.long bound limit made.latency first p b.n
 
       abbrev ss : List ℕ
       ss = rounds qs base.jobs all_came.j
@@ -161,10 +161,10 @@ module _ (b : Batch) (kit : Kit) (t : Trail) (walk : Walk) (w : Works b kit t wa
       unfolding starts_at timely
       found f =
           let c = counts b kit t walk w in
-          let q = found_below b c.1 table qs tabled base.jobs (stays_read b) base.long bound limit made.1 first p (both reached.found _ f).0 in
+          let q = found_below b c.1 table qs tabled base.jobs (stays_read b) base.long bound limit made.latency first p (both reached.found _ f).0 in
           record {
             jobs = ss;
-            least = found_least b c.1 table qs tabled base.jobs (stays_read b) base.long bound limit made.1 first p c.0 base.under f;
+            least = found_least b c.1 table qs tabled base.jobs (stays_read b) base.long bound limit made.latency first p c.0 base.under f;
             padded = all_came.starts;
             told = last_is;
             below = below_kept walk.best (latency b ss) (omega (arith, q, last_is));
@@ -173,7 +173,7 @@ module _ (b : Batch) (kit : Kit) (t : Trail) (walk : Walk) (w : Works b kit t wa
 
       not_found : answer.found ≡ false → next (clashes b) b (place_at t.turns walk) ≡ back ts (incumbent walk.best walk.starts)
       unfolding starts_at
-      not_found f = go (lost_least b c.1 table qs tabled base.jobs (stays_read b) base.long bound limit made.1 first p c.0 base.under f)
+      not_found f = go (lost_least b c.1 table qs tabled base.jobs (stays_read b) base.long bound limit made.latency first p c.0 base.under f)
         where
           c : (1 ≤ b.n) × (b.n ≤ 24) × (b.m ≤ 128)
           c = counts b kit t walk w
@@ -188,11 +188,11 @@ module _ (b : Batch) (kit : Kit) (t : Trail) (walk : Walk) (w : Works b kit t wa
       told_found f = found f
 
       -- what least_starts answers, over the arrays
-      is : (r : Reached) → r ≡ least_of kit.jobs kit.delays kit.weights t.steps walk.depth kit.stays kit.latest bound made.0 made.1 → r ≡ answer
+      is : (r : Reached) → r ≡ least_of kit.jobs kit.delays kit.weights t.steps walk.depth kit.stays kit.latest bound made.starts made.latency → r ≡ answer
       unfolding least_of
-      is r h = h ∙ least_same t.steps walk.depth bound made.1 w.jobs w.few w.weights w.each_stays w.latest base.padded
+      is r h = h ∙ least_same t.steps walk.depth bound made.latency w.jobs w.few w.weights w.each_stays w.latest base.padded
 
-      pub reaches : (r : Reached) → r ≡ least_of kit.jobs kit.delays kit.weights t.steps walk.depth kit.stays kit.latest bound made.0 made.1
+      pub reaches : (r : Reached) → r ≡ least_of kit.jobs kit.delays kit.weights t.steps walk.depth kit.stays kit.latest bound made.starts made.latency
           → (r.found ≡ true → Least b t walk (low r)) × (r.found ≡ false → next (clashes b) b (place_at t.turns walk) ≡ back ts (incumbent walk.best walk.starts))
       reaches r h =
           subst (λ (x : Reached). (x.found ≡ true → Least b t walk (low x)) × (x.found ≡ false → next (clashes b) b (place_at t.turns walk) ≡ back ts (incumbent walk.best walk.starts)))

@@ -95,8 +95,8 @@ module _ (b : Batch) (kit : Kit) (t : Trail) (walk : Walk) (w : Works b kit t wa
       record {
         path = r.path;
         steps = r.steps;
-        kept = rw (r.rows, r.tags, r.latencies)
-            (kept_back b kit.stays t.turns t'.turns walk.depth walk'.depth _ _ _ w.stands.kept (subst (λ (d : ℕ). Kin t.turns d t'.turns walk'.depth) e r.kin));
+        kept = rw r.rows
+            (kept_back b kit.stays t.turns t'.turns walk.depth walk'.depth _ w.stands.kept (subst (λ (d : ℕ). Kin t.turns d t'.turns walk'.depth) e r.kin));
       }
 
   -- ---- least starts below best
@@ -177,7 +177,7 @@ module _ (b : Batch) (kit : Kit) (t : Trail) (walk : Walk) (w : Works b kit t wa
         -- the trail with the turn, its inequality and the node's row
         pub stands_more : (c turn tag : ℕ) (steps' : Weights 1024) → c ≡ k → turn ≡ 2 * k → tag ≡ walk.depth
             → steps' ≡ record { from = set t.steps.from walk.depth (turn_from (get_or kit.clashes.codes c 0) turn); to = set t.steps.to walk.depth (turn_to (get_or kit.clashes.codes c 0) turn); code = set t.steps.code walk.depth (turn_code (get_or kit.clashes.codes c 0) turn) }
-            → Stands b kit (record { turns = set t.turns walk.depth turn; steps = steps'; rows = set t.rows (walk.depth % 32) starts; tags = set t.tags (walk.depth % 32) tag; latencies = set t.latencies (walk.depth % 32) last }) (walk.depth + 1)
+            → Stands b kit (record { turns = set t.turns walk.depth turn; steps = steps'; rows = set t.rows (walk.depth % 32) (record { tag = tag; low = x }) }) (walk.depth + 1)
         stands_more c turn tag steps' p q g e =
             record {
               path = path_set t.turns (walk.depth + 1) walk.depth turn w.stands.path met_room.1 refl (omega (arith, met_room.0));
@@ -185,5 +185,5 @@ module _ (b : Batch) (kit : Kit) (t : Trail) (walk : Walk) (w : Works b kit t wa
                   steps_more kit.clashes.codes (set t.turns walk.depth turn) t.steps steps' walk.depth c turn
                   (steps_less kit.clashes.codes t.turns (set t.turns walk.depth turn) t.steps walk.depth walk.depth w.stands.steps (omega arith) (λ i h. get_or-set_other t.turns walk.depth i turn 0 (λ z. omega arith)))
                   met_room.1 (sym (get_or-set_same t.turns walk.depth turn 0 (omega (arith, w.stands.path.full, met_room.1)))) (omega arith) e;
-              kept = rw g (kept_more b kit.stays t.turns walk.depth turn t.rows t.tags t.latencies starts last w.stands.kept small l.small exact base);
+              kept = rw g (kept_more b kit.stays t.turns walk.depth turn t.rows x w.stands.kept small l.small exact base);
             }

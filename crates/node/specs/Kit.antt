@@ -25,7 +25,7 @@ use Rattle.node.specs.Rows.{Kept}
 pub record Stands (b : Batch) (kit : Kit) (t : Trail) (depth : ℕ) : Type 0 where
   pub path : Path t.turns depth
   pub steps : Steps kit.clashes.codes t.turns depth t.steps
-  pub kept : Kept b kit.stays t.turns depth t.rows t.tags t.latencies
+  pub kept : Kept b kit.stays t.turns depth t.rows
 
 -- they hold the batch's delays, stays, ends and clashes, and a sound place
 pub record Works (b : Batch) (kit : Kit) (t : Trail) (walk : Walk) : Type 0 where
@@ -67,8 +67,6 @@ pub record Returned (kit : Kit) (t : Trail) (walk : Walk) (t' : Trail) (walk' : 
   pub kin : Kin t.turns walk.depth t'.turns walk'.depth
   pub steps : Steps kit.clashes.codes t'.turns walk'.depth t'.steps
   pub rows : t'.rows ≡ t.rows
-  pub tags : t'.tags ≡ t.tags
-  pub latencies : t'.latencies ≡ t.latencies
 
 -- whatever batch they stand for, the new trail and walk are its next place
 abbrev pub Visited : Kit → Trail → Walk → Trail → Walk → Type 0

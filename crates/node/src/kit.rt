@@ -18,15 +18,12 @@ pub struct Kit {
     pub pairs: Pairs,
 }
 
-// What does: the turns of the present path, their inequalities, and the rows of the nodes above. A row has the depth of its node as a tag and its latency
-// beside it.
+// What does: the turns of the present path, their inequalities, and the rows of the nodes above.
 #[derive(Drop)]
 pub struct Trail {
     pub turns: [u16; 1024],
     pub steps: Weights<1024>,
-    pub rows: [[u16; 24]; 32],
-    pub tags: [u16; 32],
-    pub latencies: [u16; 32],
+    pub rows: [Row; 32],
 }
 
 // Where a search stands while it runs, its turns in the trail: how many there are, and best with its starts.
@@ -43,4 +40,11 @@ pub struct Walk {
 pub struct Reach {
     pub starts: [u16; 24],
     pub latency: u16,
+}
+
+// What a node has come to, under its depth as a tag.
+#[derive(Clone, Copy)]
+pub struct Row {
+    pub tag: u16,
+    pub low: Reach,
 }

@@ -1,6 +1,5 @@
 // Where a node's rounds begin. A node's inequalities are its parent's and one more, so its least starts are at or above its parent's. The starts of the
-// nodes above it are kept in a ring of 32 rows, each with its depth as a tag and its latency beside it: a row that is not there costs rounds, and
-// nothing else.
+// nodes above it are kept in a ring of 32 rows, each with its depth as a tag: a row that is not there costs rounds, and nothing else.
 ghost use Rattle.std.specs.Prelude.{◌≡◌, ◌≤◌};
 ghost use Rattle.times.specs.Fill.{Small};
 ghost use Rattle.starts.specs.Table.{Placed};
@@ -12,8 +11,8 @@ use crate::kit::{Kit, Reach, Trail};
 // earliest.
 pub fn begin(kit: &Kit, trail: &Trail, depth: usize) -> Reach
     requires depth_bound { (depth ≤ 1024) × Placed trail.now.steps depth }
-    requires small { Small kit.now.stays 16 × SmallRing trail.now.rows trail.now.latencies }
-    ensures { (result.starts, result.latency) ≡ begun trail.now.rows trail.now.tags trail.now.latencies trail.now.steps depth kit.now.stays kit.now.first kit.now.earliest }
+    requires small { Small kit.now.stays 16 × SmallRing trail.now.rows }
+    ensures { result ≡ begun trail.now.rows trail.now.steps depth kit.now.stays (record { starts = kit.now.earliest; latency = kit.now.first }) }
 {
     let first = Reach {
         starts: kit.earliest,
@@ -23,17 +22,15 @@ pub fn begin(kit: &Kit, trail: &Trail, depth: usize) -> Reach
         return first;
     }
     let last = depth - 1;
-    let place = last % 32;
-    if usize::from(trail.tags[place]) != last {
+    let row = trail.rows[last % 32];
+    if usize::from(row.tag) != last {
         return first;
     }
     let i = usize::from(trail.steps.from[last]);
     let j = usize::from(trail.steps.to[last]);
-    let mut starts = trail.rows[place];
-    let start = starts[j].max((starts[i] + 1000).saturating_sub(trail.steps.code[last]));
-    starts[j] = start;
-    Reach {
-        starts,
-        latency: trail.latencies[place].max(start + u16::from(kit.stays[j])),
-    }
+    let mut low = row.low;
+    let start = low.starts[j].max((low.starts[i] + 1000).saturating_sub(trail.steps.code[last]));
+    low.starts[j] = start;
+    low.latency = low.latency.max(start + u16::from(kit.stays[j]));
+    low
 }

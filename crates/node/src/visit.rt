@@ -5,7 +5,7 @@ ghost use Rattle.node.specs.Walk.{Path, Coded, Steps, bound_of};
 ghost use Rattle.node.specs.Kit.{Ready, Reaches, Returned, Visited};
 
 use crate::back::go_back;
-use crate::kit::{Kit, Reach, Trail, Walk};
+use crate::kit::{Kit, Reach, Row, Trail, Walk};
 use crate::rows::begin;
 use clashes::first_met;
 use pairs::unmet;
@@ -107,10 +107,10 @@ pub fn visit(kit: &Kit, trail: &mut Trail, walk: Walk) -> Walk
     let code = kit.clashes.codes[usize::from(clash)];
     trail.turns[depth] = turn;
     store_turn(&mut trail.steps, depth, code, turn);
-    let place = depth % 32;
-    trail.rows[place] = starts;
-    trail.tags[place] = depth as u16;
-    trail.latencies[place] = latency;
+    trail.rows[depth % 32] = Row {
+        tag: depth as u16,
+        low: least,
+    };
     Walk {
         depth: depth + 1,
         best,

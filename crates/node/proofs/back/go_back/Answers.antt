@@ -2,7 +2,6 @@
 use Prim.Native.Nat.{◌+◌, ◌-◌}
 use mathlib.Core.Path.{◌≡◌, refl}
 use native.Mathlib.Omega.{arith}
-use borrow.Author.Rules.{rules}
 use Rattle.node.proofs.BackLaws.{last_small, dropped_all, drops, moves}
 use Rattle.node.proofs.back.go_back.Goals as goal
 
