@@ -1,6 +1,6 @@
 -- From a sound record to the arrays that a run works on, and back to the record that its nodes reach.
 use Prim.Native.Nat.{ℕ, ◌≤◌}
-use mathlib.Core.Path.{◌≡◌, ap, sym, subst, ◌∙◌}
+use mathlib.Core.Path.{◌≡◌, refl, ap, sym, subst, ◌∙◌}
 use mathlib.Core.Bool.{Bool, true, false}
 use mathlib.Core.List.{List}
 use native.Mathlib.Omega.{arith}
@@ -19,10 +19,11 @@ use Rattle.clashes.specs.First.{Known, Near}
 use Rattle.clashes.proofs.LimitLaws.{tabled}
 use Rattle.clashes.proofs.ListedLaws.{list_fits, list_known, list_near}
 use Rattle.pairs.specs.Pairs.{Paired}
+use Rattle.pairs.specs.declared.pairs.Pairs.{Pairs}
 use Rattle.times.specs.Fill.{Small}
 use Rattle.times.specs.Latency.{latency_of, raised_by}
 use Rattle.times.proofs.EndsLaws.{earliest_small}
-use Rattle.weights.specs.declared.delays.Delays.{Delays}
+use Rattle.weights.specs.declared.Weights.{Weights}
 use Rattle.weights.specs.Delays.{delays_read}
 use Rattle.weights.proofs.SoundLaws.{delays_length, holds_read}
 use Rattle.starts.specs.Table.{Placed}
@@ -30,8 +31,7 @@ use Rattle.starts.specs.Table.{heaviest_of}
 use Rattle.starts.proofs.HeldLaws.{held_placed}
 use Rattle.soundness.specs.declared.Examined.{Examined}
 use Rattle.soundness.specs.Examined.{Prepared}
-use Rattle.node.specs.declared.visit.Walk.{Walk}
-use Rattle.node.specs.declared.visit.Sizes.{Sizes}
+use Rattle.node.specs.declared.kit.Walk.{Walk}
 use Rattle.node.specs.Walk.{turns_in, Path, Coded, Steps, place_at}
 use Rattle.node.specs.Kit.{Works}
 use Rattle.node.proofs.RowsLaws.{kept_fresh}
@@ -44,15 +44,15 @@ unfolding search_of place_at
 rebuilt_is b total turns walk path e = ap (λ (p : List Turn). record { batch = b; path = p; best = walk.best; starts = walk.starts; total = total; ended = walk.ended }) e
 
 -- what the pairs' largest weights are found from
-pub first_placed : (s : Search) (x : Examined) → sound s ≡ true → Prepared s x → (m : ℕ) → m ≡ s.batch.m → (m ≤ 128) × Placed x.delays.from x.delays.to m
+pub first_placed : (s : Search) (x : Examined) → sound s ≡ true → Prepared s x → (m : ℕ) → m ≡ s.batch.m → (m ≤ 128) × Placed x.delays m
 first_placed s x e p m h =
     let q = record_passes s e in
     let c = (counts_iff s.batch.n s.batch.m).0 q.counts in
-    let d = delays_read s.batch in (
+    (
       omega (arith, c.1),
       rw (h, p.delays)
-          (subst (Placed d.from d.to) (delays_length s.batch)
-          (held_placed s.batch.n c.0.1 (delays_of s.batch) d.from d.to d.code (holds_read s.batch c.1 q.jobs_each q.weight_each))),
+          (subst (Placed (delays_read s.batch)) (delays_length s.batch)
+          (held_placed s.batch.n c.0.1 (delays_of s.batch) (delays_read s.batch) (holds_read s.batch c.1 q.jobs_each q.weight_each))),
     )
 
 -- what the clashes by pairs are found from
@@ -68,7 +68,7 @@ first_paired s x e p k h =
     )
 
 -- the stays and the earliest starts that their latency is found from
-pub first_times : (s : Search) (x : Examined) → sound s ≡ true → Prepared s x → Small x.stays 16 × Small x.earliest 44016
+pub first_times : (s : Search) (x : Examined) → sound s ≡ true → Prepared s x → Small x.stays 16 × Small x.ends.earliest 44016
 first_times s x e p =
     let q = record_passes s e in
     let f = fits s.batch q in (
@@ -80,51 +80,49 @@ pub first_latency : (stays earliest : List ℕ) (first : ℕ) → first ≡ rais
 unfolding raised_by
 first_latency stays earliest first e = omega (arith, e)
 
-module _ (s : Search) (x : Examined) (e : sound s ≡ true) (o : s.ended ≡ false) (p : Prepared s x) (l : length x.turns ≡ 1024) where
+module _ (s : Search) (x : Examined) (e : sound s ≡ true) (o : s.ended ≡ false) (p : Prepared s x) (l : length x.route.turns ≡ 1024) where
   -- where the nodes start from
   abbrev pub first : Walk
-  first = record { depth = x.depth; best = s.best; starts = s.starts; ended = false }
+  first = record { depth = x.route.depth; best = s.best; starts = s.starts; ended = false }
 
-  place_first : place_at x.turns first ≡ place_of s
+  place_first : place_at x.route.turns first ≡ place_of s
   place_first =
-      ap (λ (q : Bool). place_at x.turns (record { depth = x.depth; best = s.best; starts = s.starts; ended = q })) (sym o)
-      ∙ place_held s e x.turns x.depth p.path.whole p.path.each
+      ap (λ (q : Bool). place_at x.route.turns (record { depth = x.route.depth; best = s.best; starts = s.starts; ended = q })) (sym o)
+      ∙ place_held s e x.route.turns x.route.depth p.path.whole p.path.each
 
-  pub first_path : Path x.turns x.depth
-  first_path = path_held s e x.turns x.depth p.path.whole p.path.each l
+  pub first_path : Path x.route.turns x.route.depth
+  first_path = path_held s e x.route.turns x.route.depth p.path.whole p.path.each l
 
-  first_sound : sound (search_of s.batch 0 (place_at x.turns first)) ≡ true
+  first_sound : sound (search_of s.batch 0 (place_at x.route.turns first)) ≡ true
   first_sound = ap (λ (q : Place). sound (search_of s.batch 0 q)) place_first ∙ place_is_sound s e
 
   -- the turns are on clashes that the codes name
-  pub first_coded : Coded x.clashes.codes x.turns x.depth
-  first_coded = turns_coded s.batch x.turns first first_path first_sound x.clashes p.clashes
+  pub first_coded : Coded x.clashes.codes x.route.turns x.route.depth
+  first_coded = turns_coded s.batch x.route.turns first first_path first_sound x.clashes p.clashes
 
-  pub first_works : (sizes : Sizes) (code pair held end tail head gap : List ℕ) (paired : ℕ)
-      → sizes.jobs ≡ s.batch.n → sizes.delays ≡ s.batch.m → sizes.clashes ≡ x.clashes.count → sizes.first ≡ raised_by x.stays x.earliest 0
-      → code ≡ heaviest_of sizes.delays x.delays.from x.delays.to x.delays.code
-      → paired ≤ x.clashes.count → Paired x.clashes.codes pair held end sizes.pairs paired → Steps x.clashes.codes x.turns x.depth tail head gap
-      → Works s.batch sizes (record { from = x.delays.from; to = x.delays.to; code = code; stays = x.stays; earliest = x.earliest; latest = x.latest; codes = x.clashes.codes; pair = pair; held = held; end = end })
-      (record { turns = x.turns; tail = tail; head = head; gap = gap; rows = replicate 32 (replicate 24 0); tags = replicate 32 65535; latencies = replicate 32 0 }) first
-  first_works sizes code pair held end tail head gap paired a c d h k q r g =
+  pub first_works : (jobs m first_at paired : ℕ) (code : List ℕ) (pairs : Pairs) (steps : Weights 1024)
+      → jobs ≡ s.batch.n → m ≡ s.batch.m → first_at ≡ raised_by x.stays x.ends.earliest 0 → code ≡ heaviest_of m x.delays
+      → paired ≤ x.clashes.count → Paired x.clashes.codes pairs paired → Steps x.clashes.codes x.route.turns x.route.depth steps
+      → Works s.batch
+      (record { jobs = jobs; delays = m; weights = record { from = x.delays.from; to = x.delays.to; code = code }; stays = x.stays; earliest = x.ends.earliest; latest = x.ends.latest; first = first_at; clashes = x.clashes; pairs = pairs })
+      (record { turns = x.route.turns; steps = steps; rows = replicate 32 (record { tag = 65535; low = record { starts = replicate 24 0; latency = 0 } }) }) first
+  first_works jobs m first_at paired code pairs steps a c h k q r g =
       record {
         jobs = a;
         few = c;
-        from = ap (λ (y : Delays). y.from) p.delays;
-        to = ap (λ (y : Delays). y.to) p.delays;
-        code = k ∙ rw (c, p.delays);
+        weights = rw (k, c, p.delays) refl;
         each_stays = p.stays;
         earliest = p.earliest;
         latest = p.latest;
-        first = first_latency x.stays x.earliest sizes.first h;
-        listed = rw d p.clashes;
-        paired = (paired, (omega arith, r));
-        stands = record { path = first_path; steps = g; kept = kept_fresh s.batch x.stays x.turns x.depth first_path.deep };
+        first = first_latency x.stays x.ends.earliest first_at h;
+        listed = p.clashes;
+        paired = (paired, (q, r));
+        stands = record { path = first_path; steps = g; kept = kept_fresh s.batch x.stays x.route.turns x.route.depth first_path.deep };
         is_sound = first_sound;
       }
 
   -- the record that the nodes reach
-  pub advanced : (budget : ℕ) → length s.path ≡ 1024 → (r : Search) → r ≡ nodes_on (clashes s.batch) budget (search_of s.batch s.total (place_at x.turns first)) → r ≡ nodes budget s
+  pub advanced : (budget : ℕ) → length s.path ≡ 1024 → (r : Search) → r ≡ nodes_on (clashes s.batch) budget (search_of s.batch s.total (place_at x.route.turns first)) → r ≡ nodes budget s
   unfolding nodes
   advanced budget k r h =
       h ∙ ap (λ (q : Place). nodes_on (clashes s.batch) budget (search_of s.batch s.total q)) place_first

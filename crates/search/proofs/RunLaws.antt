@@ -1,7 +1,7 @@
 -- A run by the cases of its refusals: what each leaves, and what a run that is not refused comes to.
 use Prim.Native.Nat.{ℕ, ◌+◌, ◌-◌, ◌≤◌, ◌<◌}
 use mathlib.Core.Path.{◌≡◌, refl, ap, sym, ◌∙◌}
-use mathlib.Core.Bool.{Bool, true, false, not, ◌||◌}
+use mathlib.Core.Bool.{Bool, true, false, not, ◌||◌, ◌&&◌}
 use mathlib.Core.List.{List}
 use native.Mathlib.Omega.{arith}
 use lib.ListN.{length}
@@ -76,8 +76,9 @@ left_as s budget k list r e h = ap (λ (x : Ran). (x, list)) e ∙ h
 
 -- ---- the limit on total
 
-pub drawn : (ended : Bool) (total budget : ℕ) → ended ≡ false → budget ≤ 1000000 → not (ltb (100000000 - budget) total) ≡ (ended || leb (total + budget) 100000000)
-drawn ended total budget e h = go (ltb (100000000 - budget) total) refl ∙ ap (λ (p : Bool). p || leb (total + budget) 100000000) (sym e)
+pub drawn : (ended : Bool) (total budget : ℕ) → budget ≤ 1000000 → not (not ended && ltb (100000000 - budget) total) ≡ (ended || leb (total + budget) 100000000)
+drawn true total budget h = refl
+drawn false total budget h = go (ltb (100000000 - budget) total) refl
   where
     go : (p : Bool) → ltb (100000000 - budget) total ≡ p → not p ≡ leb (total + budget) 100000000
     go true f = sym (lt-leb (total + budget) 100000000 (omega (arith, ltb-true (100000000 - budget) total f)))

@@ -2,36 +2,29 @@
 ghost use Rattle.std.specs.Prelude.{◌≡◌, ◌++◌, ◌≤◌, length, take, drop};
 ghost use Rattle.model.specs.Run.{answer_of, starts_after};
 
-use model::{Answer, Search, wide};
+use model::{Answer, Search};
 
 // The first n starts go to the front of the list, and the rest of it stays.
-fn give_starts(starts: [u16; 24], n: usize, list: &mut [u16])
+fn give_starts(starts: &[u16; 24], n: usize, list: &mut [u16])
     requires { (n ≤ 24) × (n ≤ length list.old) }
-    ensures { list.new ≡ take n starts ++ drop n list.old }
+    ensures { list.new ≡ take n starts.now ++ drop n list.old }
 {
-    let mut k: usize = 0;
-    while k < n {
-        list[k] = starts[k];
-        k = k + 1;
-    }
+    list[..n].copy_from_slice(&starts[..n]);
 }
 
 // Spent when the search has not ended, a plan when it has ended with a best, no plan when it has ended without.
 #[inline(never)]
-pub fn answered(search: Search, list: &mut [u16]) -> Answer
-    requires { (search.batch.n ≤ 24) × (search.batch.n ≤ length list.old) }
-    ensures { (result ≡ answer_of search.ended search.best search.total) × (list.new ≡ starts_after result search.batch.n search.starts list.old) }
+pub fn answered(search: &Search, list: &mut [u16]) -> Answer
+    requires { (search.now.batch.n ≤ 24) × (search.now.batch.n ≤ length list.old) }
+    ensures { (result ≡ answer_of search.now.ended search.now.best search.now.total) × (list.new ≡ starts_after result search.now.batch.n search.now.starts list.old) }
 {
     let total = search.total;
     if !search.ended {
         return Answer::Spent(total);
     }
-    let best = search.best;
-    let Some(latency) = best else {
+    let Some(latency) = search.best else {
         return Answer::NoPlan(total);
     };
-    let starts = search.starts;
-    let n = wide(search.batch.n);
-    give_starts(starts, n, list);
+    give_starts(&search.starts, usize::from(search.batch.n), list);
     Answer::Plan(latency, total)
 }

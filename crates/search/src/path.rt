@@ -12,14 +12,12 @@ pub fn path_of(turns: &[u16; 1024], depth: usize) -> [Turn; 1024]
     ensures { result ≡ pad 1024 empty (turns_in turns.now depth) }
 {
     let mut path = [EMPTY; 1024];
-    let mut k: usize = 0;
-    while k < depth {
+    for k in 0..depth {
         let turn = turns[k];
         path[k] = Turn {
             clash: turn / 2,
             side: turn % 2,
         };
-        k = k + 1;
     }
     path
 }

@@ -1,5 +1,5 @@
 -- `search::path::path_of` meets its contract: after k turns the path is the first k turns and empty places.
-use Prim.Native.Nat.{◌-◌, ◌≤◌}
+use Prim.Native.Nat.{◌≤◌}
 use mathlib.Core.Path.{◌≡◌}
 use Rattle.model.specs.Common.{pad}
 use Rattle.model.specs.Search.{empty}
@@ -8,6 +8,3 @@ use Rattle.search.proofs.path.path_of.Given as goal
 
 abbrev pub invariant-loop-k : goal.invariant-loop-k
 invariant-loop-k l = (l.k ≤ l.depth) × (l.path ≡ pad 1024 empty (turns_in l.turns l.k))
-
-abbrev pub decreases-loop-k : goal.decreases-loop-k
-decreases-loop-k l = l.depth - l.k

@@ -1,6 +1,6 @@
--- `search::run::overdrawn` meets its contract.
+-- `run::overdrawn` meets its contract.
 use Rattle.search.proofs.RunLaws.{drawn}
 use Rattle.search.proofs.run.overdrawn.Goals as goal
 
 pub returns : goal.returns
-returns c = drawn _ _ _ c.if-ended.false c.requires
+returns c = ?

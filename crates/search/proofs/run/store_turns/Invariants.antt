@@ -1,10 +1,6 @@
 -- `search::run::store_turns` meets its contract. The invariant: the inequalities of the first k turns are stored.
-use Prim.Native.Nat.{◌-◌, ◌≤◌}
 use Rattle.node.specs.Walk.{Steps}
 use Rattle.search.proofs.run.store_turns.Given as goal
 
 abbrev pub invariant-loop-k : goal.invariant-loop-k
-invariant-loop-k l = (l.k ≤ l.depth) × Steps l.codes l.turns l.k l.tail l.head l.gap
-
-abbrev pub decreases-loop-k : goal.decreases-loop-k
-decreases-loop-k l = l.depth - l.k
+invariant-loop-k l = Steps l.codes l.turns l.k l.steps
