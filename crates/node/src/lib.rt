@@ -6,4 +6,4 @@ mod kit;
 mod rows;
 pub mod visit;
 
-pub use kit::{Kit, Trail, Walk};
+pub use kit::{Kit, Reach, Row, Trail, Walk};

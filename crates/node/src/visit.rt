@@ -52,18 +52,11 @@ fn gone_back(kit: &Kit, trail: &mut Trail, walk: Walk) -> Walk
     requires steps { Steps kit.now.clashes.codes trail.old.turns walk.depth trail.old.steps }
     ensures { Returned kit.now trail.old walk trail.new result }
 {
-    let Walk {
-        depth,
-        best,
-        starts,
-        ended: _,
-    } = walk;
-    let Some(last) = go_back(&mut trail.turns, depth) else {
+    let Some(last) = go_back(&mut trail.turns, walk.depth) else {
         return Walk {
             depth: 0,
-            best,
-            starts,
             ended: true,
+            ..walk
         };
     };
     let turn = trail.turns[last];
@@ -71,9 +64,8 @@ fn gone_back(kit: &Kit, trail: &mut Trail, walk: Walk) -> Walk
     store_turn(&mut trail.steps, last, clash, turn);
     Walk {
         depth: last + 1,
-        best,
-        starts,
         ended: false,
+        ..walk
     }
 }
 
@@ -85,24 +77,18 @@ pub fn visit(kit: &Kit, trail: &mut Trail, walk: Walk) -> Walk
     let Some(least) = reach(kit, trail, walk) else {
         return gone_back(kit, trail, walk);
     };
-    let Walk {
-        depth,
-        best,
-        starts: kept,
-        ended: _,
-    } = walk;
     let Reach { starts, latency } = least;
     let low = unmet(&kit.pairs, &starts);
-    let met = first_met(&kit.clashes.codes, low, kit.clashes.count, &starts);
+    let met = first_met(&kit.clashes, low, &starts);
     let Some(clash) = met else {
         let better = Walk {
-            depth,
             best: Some(latency),
             starts,
-            ended: false,
+            ..walk
         };
         return gone_back(kit, trail, better);
     };
+    let depth = walk.depth;
     let turn = 2 * clash;
     let code = kit.clashes.codes[usize::from(clash)];
     trail.turns[depth] = turn;
@@ -113,8 +99,7 @@ pub fn visit(kit: &Kit, trail: &mut Trail, walk: Walk) -> Walk
     };
     Walk {
         depth: depth + 1,
-        best,
-        starts: kept,
         ended: false,
+        ..walk
     }
 }
