@@ -85,9 +85,7 @@ module _ (kit : Kit) where
             record {
               jobs = w.jobs;
               few = w.few;
-              from = w.from;
-              to = w.to;
-              code = w.code;
+              weights = w.weights;
               each_stays = w.each_stays;
               earliest = w.earliest;
               latest = w.latest;
