@@ -47,8 +47,7 @@ rebuilt_is b total turns walk path e = ap (λ (p : List Turn). record { batch = 
 pub first_placed : (s : Search) (x : Examined) → sound s ≡ true → Prepared s x → (m : ℕ) → m ≡ s.batch.m → (m ≤ 128) × Placed x.delays m
 first_placed s x e p m h =
     let q = record_passes s e in
-    let c = (counts_iff s.batch.n s.batch.m).0 q.counts in
-    (
+    let c = (counts_iff s.batch.n s.batch.m).0 q.counts in (
       omega (arith, c.1),
       rw (h, p.delays)
           (subst (Placed (delays_read s.batch)) (delays_length s.batch)

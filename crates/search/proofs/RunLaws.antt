@@ -1,7 +1,7 @@
 -- A run by the cases of its refusals: what each leaves, and what a run that is not refused comes to.
 use Prim.Native.Nat.{ℕ, ◌+◌, ◌-◌, ◌≤◌, ◌<◌}
 use mathlib.Core.Path.{◌≡◌, refl, ap, sym, ◌∙◌}
-use mathlib.Core.Bool.{Bool, true, false, not, ◌||◌, ◌&&◌}
+use mathlib.Core.Bool.{Bool, true, false, not, ◌||◌}
 use mathlib.Core.List.{List}
 use native.Mathlib.Omega.{arith}
 use lib.ListN.{length}
@@ -70,19 +70,21 @@ module _ (s : Search) (budget : ℕ) (list : List ℕ) where
       ∙ ap (λ (x : Answer). (record { answer = x; search = after }, starts_after x after.batch.n after.starts list)) b
       ∙ ap (λ (x : Search). answered x list) a ∙ sym (ap (λ (o : Outcome (Unit {0})). ran_as o s budget list) go)
 
--- a record whose run leaves as it is
+-- a record whose run leaves it as it is
 pub left_as : (s : Search) (budget k : ℕ) (list : List ℕ) (r : Ran) → r ≡ record { answer = Refused k; search = s } → ◌≡◌ {A = Ran × List ℕ} (record { answer = Refused k; search = s }, list) (ran s budget list) → ◌≡◌ {A = Ran × List ℕ} (r, list) (ran s budget list)
 left_as s budget k list r e h = ap (λ (x : Ran). (x, list)) e ∙ h
 
 -- ---- the limit on total
 
-pub drawn : (ended : Bool) (total budget : ℕ) → budget ≤ 1000000 → not (not ended && ltb (100000000 - budget) total) ≡ (ended || leb (total + budget) 100000000)
-drawn true total budget h = refl
-drawn false total budget h = go (ltb (100000000 - budget) total) refl
+pub drawn : (ended : Bool) (total budget : ℕ) → ended ≡ false → budget ≤ 1000000 → not (ltb (100000000 - budget) total) ≡ (ended || leb (total + budget) 100000000)
+drawn ended total budget e h = go (ltb (100000000 - budget) total) refl ∙ ap (λ (p : Bool). p || leb (total + budget) 100000000) (sym e)
   where
     go : (p : Bool) → ltb (100000000 - budget) total ≡ p → not p ≡ leb (total + budget) 100000000
     go true f = sym (lt-leb (total + budget) 100000000 (omega (arith, ltb-true (100000000 - budget) total f)))
     go false f = sym (le-leb (total + budget) 100000000 (omega (arith, ltb-false (100000000 - budget) total f)))
+
+pub drawn_ended : (ended : Bool) (total budget : ℕ) → ended ≡ true → not (not ended) ≡ (ended || leb (total + budget) 100000000)
+drawn_ended ended total budget e = rw e refl
 
 -- no nodes
 pub no_nodes : (s : Search) (budget : ℕ) → budget ≡ 0 → s ≡ nodes budget s

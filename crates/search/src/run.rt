@@ -13,7 +13,7 @@ use model::{Answer, Batch, Ran, Refusal, Search, Tally};
 use node::{Kit, Reach, Row, Trail, Walk};
 use nodes::{Walked, visit_nodes};
 use pairs::{Pairs, find_pairs};
-use soundness::{Examined, examine};
+use soundness::{Examined, Route, examine};
 use starts::heaviest_of;
 use times::latency::raised_latency;
 use weights::Weights;
@@ -63,11 +63,11 @@ fn taken_by_pairs(count: usize, budget: u32) -> usize
 // A sound record that has not ended, after the budget's nodes. What they work on was examined; the latency of the earliest starts, the largest weight of each pair's delays,
 // the clashes by pairs and the turns' inequalities are found here.
 #[inline(never)]
-fn advance(search: &Search, examined: &Examined, budget: u32) -> Search
-    requires search_value { (sound search.now ≡ true) × (search.now.ended ≡ false) }
-    requires budget_bound { search.now.total + budget ≤ 100000000 }
-    requires prepared { Prepared search.now examined.now }
-    ensures { result ≡ nodes budget search.now }
+fn advance(search: Search, examined: Examined, budget: u32) -> Search
+    requires search_value { (sound search ≡ true) × (search.ended ≡ false) }
+    requires budget_bound { search.total + budget ≤ 100000000 }
+    requires prepared { Prepared search examined }
+    ensures { result ≡ nodes budget search }
 {
     let m = usize::from(search.batch.m);
     let code = heaviest_of(m, &examined.delays);
@@ -94,8 +94,7 @@ fn advance(search: &Search, examined: &Examined, budget: u32) -> Search
     };
     let paired = taken_by_pairs(kit.clashes.count, budget);
     find_pairs(&kit.clashes.codes, paired, &mut kit.pairs);
-    let turns = examined.route.turns;
-    let depth = examined.route.depth;
+    let Route { turns, depth } = examined.route;
     let no_row = Row {
         tag: 65535,
         low: Reach {
@@ -137,15 +136,15 @@ fn overdrawn(ended: bool, total: u32, budget: u32) -> bool
 }
 
 // A sound record after the budget's nodes; an ended search counts nothing, and nothing is made ready for no nodes.
-fn after_run(search: Search, examined: &Examined, budget: u32) -> Search
+fn after_run(search: Search, examined: Examined, budget: u32) -> Search
     requires search_value { (sound search ≡ true) × ((search.ended || leb (search.total + budget) 100000000) ≡ true) }
-    requires prepared { Prepared search examined.now }
+    requires prepared { Prepared search examined }
     ensures { result ≡ nodes budget search }
 {
     if search.ended || budget == 0 {
         return search;
     }
-    advance(&search, examined, budget)
+    advance(search, examined, budget)
 }
 
 // A refusal gives only its number, and the record unchanged. The number is the answer's: document 01 names it.
@@ -175,7 +174,7 @@ pub fn run_search(search: Search, budget: u32, list: &mut [u16]) -> Ran
     if overdrawn(search.ended, search.total, budget) {
         return refused(search, Refusal::Total);
     }
-    let after = after_run(search, &examined, budget);
+    let after = after_run(search, examined, budget);
     let answer = answered(&after, list);
     Ran {
         answer,
