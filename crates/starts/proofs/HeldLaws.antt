@@ -11,7 +11,6 @@ use lib.ListN.{length, get_or, take}
 use lib.Seq.{take-suc, take-length}
 use Rattle.model.specs.declared.Delay.{Delay}
 use Rattle.model.specs.Batch.{blank_delay}
-use Rattle.times.specs.Fill.{filled}
 use Rattle.times.proofs.FillLaws.{filled_at}
 use Rattle.weights.specs.declared.Weights.{Weights}
 use Rattle.weights.specs.Code.{coded}
@@ -23,13 +22,6 @@ use Rattle.starts.proofs.PlaceLaws.{code_at, kept, code_snoc, Tabled, empty_tabl
 code_none : (i j : ℕ) → code_at [] i j ≡ 65535
 unfolding code_at
 code_none i j = refl
-
--- ---- the loop that finds the smallest codes, those of the largest weights
-
-pub heavy_is : {N : ℕ} (m : ℕ) (w : Weights N) (t : List (List ℕ)) (r : List ℕ) → t ≡ with_put w empty_table m
-    → r ≡ filled (λ k. get_or (get_or t (get_or w.from k 0) []) (get_or w.to k 0) 0) 128 m → r ≡ heaviest_of m w
-unfolding heaviest_of
-heavy_is m w t r e h = rw (h, e)
 
 -- ---- inequalities that arrays hold
 

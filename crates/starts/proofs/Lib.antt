@@ -1,10 +1,8 @@
 -- Laws of this crate's definitions. `Law` has those that a caller wants.
-pub mod TableLaws
 pub mod PlaceLaws
 pub mod HeldLaws
 pub mod RaisedLaws
 pub mod FromLaws
-pub mod LeastLaws
 pub mod PathTable
 pub mod Law
 pub mod MetLaws

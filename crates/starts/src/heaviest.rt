@@ -7,6 +7,7 @@ use weights::Weights;
 
 // The codes of the first m delays, each lowered to the smallest of its pair, that of the largest weight, and 0 past them: so they can be stored in any order,
 // without a comparison.
+#[tactic(auto, unfolding(crate::specs::Table::empty_table, crate::specs::Table::heaviest_of, times::specs::Fill::filled))]
 pub fn heaviest_of(m: usize, delays: &Weights<128>) -> [u16; 128]
     requires m_bound { m ≤ 128 }
     requires placed { Placed delays.now m }

@@ -22,6 +22,7 @@ pub use heaviest::heaviest_of;
 // inequalities are the steps. The starts and their latency are raised in place, at most n times; a latency at or
 // above the bound ends the rounds. Whether a round changed nothing and no start passes its latest is returned: the starts are then the least ones, if they were
 // at or below these and at or above the earliest.
+#[tactic(auto, unfolding(crate::specs::Table::empty_table, crate::specs::Least::least_of))]
 pub fn least_starts(
     n: usize,
     m: usize,

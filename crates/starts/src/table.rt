@@ -6,16 +6,19 @@ ghost use Rattle.starts.specs.Table.{put_in, store_in, with_put, with_stored, Pl
 use weights::Weights;
 
 // A place keeps the smaller of what it has and a weight's code: the larger weight.
+#[tactic(auto, unfolding(crate::specs::Table::put_in, crate::specs::Table::store_in))]
 fn put(table: &mut [[u16; 24]; 24], from: usize, to: usize, code: u16)
     requires { (from < 24) × (to < 24) }
     ensures { table.new ≡ put_in table.old from to code }
 {
+    // No `min`: that stores each time, which is slower where turns of a deep path fall on the same place.
     if code < table[from][to] {
         table[from][to] = code;
     }
 }
 
 // A place gets a weight's code, whatever it has.
+#[tactic(auto, unfolding(crate::specs::Table::store_in))]
 fn store(table: &mut [[u16; 24]; 24], from: usize, to: usize, code: u16)
     requires { (from < 24) × (to < 24) }
     ensures { table.new ≡ store_in table.old from to code }
@@ -24,6 +27,7 @@ fn store(table: &mut [[u16; 24]; 24], from: usize, to: usize, code: u16)
 }
 
 // The first inequalities, as many as counted, each place keeping the largest: a batch's delays, or the turns taken.
+#[tactic(auto, unfolding(crate::specs::Table::with_put))]
 pub fn put_all<const N: usize>(table: &mut [[u16; 24]; 24], count: usize, weights: &Weights<N>)
     requires count_bound { count ≤ N }
     requires placed { Placed weights.now count }
@@ -40,6 +44,7 @@ pub fn put_all<const N: usize>(table: &mut [[u16; 24]; 24], count: usize, weight
 }
 
 // The first m delays, each place getting the last: without a comparison, for delays that have the smallest code of their pair.
+#[tactic(auto, unfolding(crate::specs::Table::with_stored))]
 pub fn store_delays(table: &mut [[u16; 24]; 24], m: usize, delays: &Weights<128>)
     requires m_bound { m ≤ 128 }
     requires placed { Placed delays.now m }
