@@ -1,5 +1,5 @@
 -- The B1 lines of a text, as a loop reads them: what is read so far stands before what is still to be read.
-use Rattle.std.specs.Prelude.{if◌then◌else◌}
+use Rattle.std.specs.Prelude.{if◌then◌else◌, Option, Some, None}
 use Prim.Native.Nat.{ℕ, ◌+◌, ◌≤◌, ◌<◌}
 use mathlib.Core.Path.{◌≡◌, refl, ap, ap₂, sym, ◌∙◌}
 use mathlib.Core.Bool.{Bool, true, ◌&&◌}
@@ -88,7 +88,7 @@ module _ (text : List ℕ) (from at k : ℕ) (ordered : Bool) (starts : List ℕ
       go q (accept more) = ap accept (sym (append_assoc r.items (q ∷ []) more))
 
   -- no B1 line
-  pub read_stop : at < length text → (j : ℕ) → read_one claim_line (drop at text) ≡ refuse j → lines_told (refuse 17) ≡ lines_told (read_lines (drop from text))
+  pub read_stop : at < length text → (j : ℕ) → read_one claim_line (drop at text) ≡ refuse j → None ≡ lines_told (read_lines (drop from text))
   unfolding lines_told
   read_stop h j e =
       let s = some_stop (drop at text) (omega (arith, length-drop at text)) j e in
@@ -99,7 +99,7 @@ module _ (text : List ℕ) (from at k : ℕ) (ordered : Bool) (starts : List ℕ
       some_stop (c ∷ cs) h j e = lines_stop c cs j e
 
   -- nothing is left
-  pub read_all : length text ≤ at → ◌≡◌ {A = Lines} (record { formed = true; count = k; ordered = ordered; starts = starts }) (lines_told (read_lines (drop from text)))
+  pub read_all : length text ≤ at → ◌≡◌ {A = Option Lines} (Some (record { count = k; ordered = ordered; starts = starts })) (lines_told (read_lines (drop from text)))
   unfolding lines_told
   read_all h =
       let all : read_lines (drop from text) ≡ accept r.items = r.rest ∙ accepts_bind _ (ap read_lines (drop_of_length-le text h) ∙ lines_none) ∙ ap accept (append-nil r.items) in

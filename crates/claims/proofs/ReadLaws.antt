@@ -1,4 +1,5 @@
 -- A line of a plan text, by the first of its tests that fails.
+use Rattle.std.specs.Prelude.{Some, None}
 use Prim.Native.Nat.{ℕ, ◌+◌, ◌-◌, ◌*◌, ◌/◌, ◌≤◌, ◌<◌}
 use mathlib.Core.Path.{◌≡◌, refl, ap, ap₂, sym, ◌∙◌, subst}
 use mathlib.Core.Bool.{Bool, true, false, ◌&&◌, not}
@@ -20,9 +21,7 @@ use Rattle.frame_read.proofs.Tests.{refuses_require}
 use Rattle.frame_read.proofs.Bytes.{frame_size, framed_inside}
 use Rattle.frame_read.proofs.One.{one_refused, one_read}
 use Rattle.claims.specs.declared.claim.Head.{Head}
-use Rattle.claims.specs.declared.claim.Head.TheVariants.{Read, Broken}
 use Rattle.claims.specs.declared.claim.JobLine.{JobLine}
-use Rattle.claims.specs.declared.claim.JobLine.TheVariants.{Starts, Broken as NoJob}
 use Rattle.claims.specs.Claim.{ReadsHead, ReadsJob}
 
 -- no line: refused, whichever the number
@@ -31,11 +30,11 @@ unfolding read_one due given is_empty require ◌>>=◌
 none_read frame [] e = (7, refl)
 none_read frame (c ∷ cs) e = (1, rw e)
 
-pub head_none : (text : List ℕ) → read_line text ≡ none → ReadsHead text Broken
+pub head_none : (text : List ℕ) → read_line text ≡ none → ReadsHead text None
 unfolding ReadsHead
 head_none text e = none_read claim_head text e
 
-pub job_none : (text : List ℕ) (at : ℕ) → read_line (drop at text) ≡ none → ReadsJob text at NoJob
+pub job_none : (text : List ℕ) (at : ℕ) → read_line (drop at text) ≡ none → ReadsJob text at None
 unfolding ReadsJob
 job_none text at e = none_read claim_line (drop at text) e
 
@@ -48,7 +47,7 @@ module _ {text : List ℕ} {end : ℕ} (f : Framed text 0 end) (size : ℕ) (siz
   sized_so = let e : end - 0 ≡ end = omega arith in rw e sized
 
   -- another kind or length
-  pub head_other : not t ≡ true → ReadsHead text Broken
+  pub head_other : not t ≡ true → ReadsHead text None
   unfolding ReadsHead claim_head
   head_other wrong = (17, one_refused claim_head text 0 f size sized_so 17 (refuses_require 17 _ (ap (λ (t : Bool). t && eqb (byte_of frame 1) 1) (fails asked wrong))))
 
@@ -58,13 +57,13 @@ module _ {text : List ℕ} {end : ℕ} (f : Framed text 0 end) (size : ℕ) (siz
 
     module _ (v : ℕ) (is : v ≡ byte_of frame 1) where
       -- another number than 01
-      pub head_edition : (v ≡ 1 → ⊥) → ReadsHead text Broken
+      pub head_edition : (v ≡ 1 → ⊥) → ReadsHead text None
       unfolding ReadsHead claim_head
       head_edition h =
           (17, one_refused claim_head text 0 f size sized_so 17 (refuses_require 17 _ (ap (λ (t : Bool). frame_is 0xB0 9 frame && t) (ap (λ (x : ℕ). eqb x 1) (sym is) ∙ ne_eqb v 1 h) ∙ and_false (frame_is 0xB0 9 frame))))
 
       -- it is read
-      pub head_read : v ≡ 1 → (n latency : ℕ) → n ≡ byte_of frame 2 → latency ≡ wide_of frame 3 → ReadsHead text (Read n latency (end + 1))
+      pub head_read : v ≡ 1 → (n latency : ℕ) → n ≡ byte_of frame 2 → latency ≡ wide_of frame 3 → ReadsHead text (Some (record { n = n; latency = latency; next = end + 1 }))
       unfolding ReadsHead claim_head
       head_read one n latency p q =
           let total = wide_of frame 5 * 65536 + wide_of frame 7 in (
@@ -76,7 +75,7 @@ module _ {text : List ℕ} {end : ℕ} (f : Framed text 0 end) (size : ℕ) (siz
 
 -- a line at a place, likewise
 module _ {text : List ℕ} {at end : ℕ} (f : Framed text at end) (size : ℕ) (sized : size ≡ (end - at) / 2) (t : Bool) (asked : t ≡ frame_is 0xB1 4 (frame_at text at size)) where
-  pub job_other : not t ≡ true → ReadsJob text at NoJob
+  pub job_other : not t ≡ true → ReadsJob text at None
   unfolding ReadsJob claim_line
   job_other wrong = (17, one_refused claim_line text at f size sized 17 (refuses_require 17 _ (fails asked wrong)))
 
@@ -84,26 +83,10 @@ module _ {text : List ℕ} {at end : ℕ} (f : Framed text at end) (size : ℕ) 
     pub job_place : (k : ℕ) → k < 4 → Inside text at size × (k < size)
     job_place k h = (framed_inside f size sized, omega (arith, frame_size text at size 0xB1 4 (passes asked right)))
 
-    pub job_read : (job start : ℕ) → job ≡ byte_of (frame_at text at size) 1 → start ≡ wide_of (frame_at text at size) 2 → ReadsJob text at (Starts job start (end + 1))
+    pub job_read : (job start : ℕ) → job ≡ byte_of (frame_at text at size) 1 → start ≡ wide_of (frame_at text at size) 2 → ReadsJob text at (Some (record { job = job; start = start; next = end + 1 }))
     unfolding ReadsJob claim_line
     job_read job start p q = (
       omega (arith, f.size),
       omega (arith, f.inside),
       one_read claim_line text at f size sized _ (accepts_require 17 _ (passes asked right)) ∙ ap₂ (λ (x y : ℕ). accept ((x, y), drop (end + 1) text)) (sym p) (sym q),
     )
-
--- ---- what a caller knows by the answers
-
-pub told_job : (text : List ℕ) (at : ℕ) (r : JobLine) (job start next : ℕ) → ReadsJob text at r → r ≡ Starts job start next
-    → (at < next) × (next ≤ length text) × (read_one claim_line (drop at text) ≡ accept ((job, start), drop next text))
-unfolding ReadsJob
-told_job text at r job start next h e = subst (ReadsJob text at) e h
-
-pub told_no_job : (text : List ℕ) (at : ℕ) (r : JobLine) → ReadsJob text at r → r ≡ NoJob → (k : ℕ) × (read_one claim_line (drop at text) ≡ refuse k)
-unfolding ReadsJob
-told_no_job text at r h e = subst (ReadsJob text at) e h
-
--- the place behind the first line
-pub told_place : (text : List ℕ) (r : Head) (n latency next : ℕ) → ReadsHead text r → r ≡ Read n latency next → next ≤ length text
-unfolding ReadsHead
-told_place text r n latency next h e = (subst (ReadsHead text) e h).0

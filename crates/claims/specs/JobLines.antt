@@ -1,5 +1,5 @@
 -- All B1 lines of a plan text: what is kept of them.
-use Rattle.std.specs.Prelude.{ℕ, true, false, List, map, length, take, set, replicate, ltb, if◌then◌else◌}
+use Rattle.std.specs.Prelude.{ℕ, List, Option, Some, None, map, length, take, set, replicate, ltb, if◌then◌else◌}
 use Rattle.model.specs.Common.{count, pad, Outcome, refuse, accept}
 use Rattle.model.specs.Limits.{most_jobs}
 use Rattle.model.specs.Starts.{same}
@@ -10,12 +10,11 @@ unfoldable pub stored : List ℕ → ℕ → ℕ → List ℕ
 stored starts k start = if ltb k most_jobs then set starts k start else starts
 
 -- all lines: how many, whether their jobs are 0, 1, .. in order, and the first 24 starts
-unfoldable pub lines_told : Outcome (List (ℕ × ℕ)) → Lines
-lines_told (refuse k) = record { formed = false; count = 0; ordered = false; starts = replicate most_jobs 0 }
+unfoldable pub lines_told : Outcome (List (ℕ × ℕ)) → Option Lines
+lines_told (refuse k) = None
 lines_told (accept qs) =
-    record {
-      formed = true;
+    Some (record {
       count = length qs;
       ordered = same (map (λ q. q.0) qs) (count 0 (length qs));
       starts = pad most_jobs 0 (take most_jobs (map (λ q. q.1) qs));
-    }
+    })

@@ -5,54 +5,64 @@ ghost use Rattle.claims.specs.Claim.{ReadsHead, ReadsJob};
 use frame_read::frame::{frame_byte, frame_is, frame_wide};
 use lines::{Line, line_at};
 
-// n, the latency and the place behind the line; or no B0 line with 01. The total is not judged, and not read.
+// What a B0 line with 01 says, and the place behind it. The total is not judged, and not read.
 #[derive(Clone, Copy)]
-pub enum Head {
-    Read(u8, u16, usize),
-    Broken,
+pub struct Head {
+    pub n: u8,
+    pub latency: u16,
+    pub next: usize,
 }
 
-// The job, its start and the place behind the line; or no B1 line.
+// What a B1 line says, and the place behind it.
 #[derive(Clone, Copy)]
-pub enum JobLine {
-    Starts(u8, u16, usize),
-    Broken,
+pub struct JobLine {
+    pub job: u8,
+    pub start: u16,
+    pub next: usize,
 }
 
-// The first line of a text.
-pub fn read_head(text: &[u8]) -> Head
+// The first line of a text, where it is a B0 line with 01.
+pub fn read_head(text: &[u8]) -> Option<Head>
     ensures { ReadsHead text.now result }
 {
     let line = line_at(text, 0);
     let Line::Frame(end) = line else {
-        return Head::Broken;
+        return None;
     };
     let size = end / 2;
     if !frame_is(text, 0, size, 0xB0, 9) {
-        return Head::Broken;
+        return None;
     }
     if frame_byte(text, 0, size, 1) != 1 {
-        return Head::Broken;
+        return None;
     }
     let n = frame_byte(text, 0, size, 2);
     let latency = frame_wide(text, 0, size, 3);
-    Head::Read(n, latency, end + 1)
+    Some(Head {
+        n,
+        latency,
+        next: end + 1,
+    })
 }
 
-// The line at a place.
-pub fn read_job(text: &[u8], at: usize) -> JobLine
+// The line at a place, where it is a B1 line.
+pub fn read_job(text: &[u8], at: usize) -> Option<JobLine>
     requires { at ≤ length text.now }
     ensures { ReadsJob text.now at result }
 {
     let line = line_at(text, at);
     let Line::Frame(end) = line else {
-        return JobLine::Broken;
+        return None;
     };
     let size = (end - at) / 2;
     if !frame_is(text, at, size, 0xB1, 4) {
-        return JobLine::Broken;
+        return None;
     }
     let job = frame_byte(text, at, size, 1);
     let start = frame_wide(text, at, size, 2);
-    JobLine::Starts(job, start, end + 1)
+    Some(JobLine {
+        job,
+        start,
+        next: end + 1,
+    })
 }

@@ -1,38 +1,23 @@
 // The B1 lines of a plan text, read in one pass to its end, however many there are.
 ghost use Rattle.std.specs.Prelude.{◌≡◌, ◌&&◌, ◌≤◌, length, drop, eqb};
-ghost use Rattle.model.specs.Common.{refuse};
 ghost use Rattle.model.specs.Judge.{read_lines};
 ghost use Rattle.claims.specs.JobLines.{lines_told, stored};
 
-use crate::claim::{JobLine, read_job};
-use model::wide;
+use crate::claim::read_job;
 
-// Whether all of them are B1 lines; if so how many, whether they name the jobs 0, 1, .. in order, and the starts of the first 24, with 0
-// in the places past them. Otherwise `formed` and `ordered` are false, and all else is 0.
+// How many they are, whether they name the jobs 0, 1, .. in order, and the starts of the first 24, with 0 in the places past them.
 #[derive(Clone, Copy)]
 pub struct Lines {
-    pub formed: bool,
     pub count: usize,
     pub ordered: bool,
     pub starts: [u16; 24],
-}
-
-fn broken() -> Lines
-    ensures { result ≡ lines_told (refuse 17) }
-{
-    Lines {
-        formed: false,
-        count: 0,
-        ordered: false,
-        starts: [0u16; 24],
-    }
 }
 
 // The jobs so far are in order, and this one is number k.
 fn in_order(ordered: bool, job: u8, k: usize) -> bool
     ensures { result ≡ (ordered && eqb job k) }
 {
-    ordered && wide(job) == k
+    ordered && usize::from(job) == k
 }
 
 // The start of line k, where there is room for it.
@@ -44,8 +29,8 @@ fn store(starts: &mut [u16; 24], k: usize, start: u16)
     }
 }
 
-// All lines of a text from a place on.
-pub fn read_lines(text: &[u8], at: usize) -> Lines
+// All lines of a text from a place on, where all of them are B1 lines.
+pub fn read_lines(text: &[u8], at: usize) -> Option<Lines>
     requires { at ≤ length text.now }
     ensures { result ≡ lines_told (read_lines (drop at text.now)) }
 {
@@ -54,21 +39,17 @@ pub fn read_lines(text: &[u8], at: usize) -> Lines
     let mut place = at;
     let mut k: usize = 0;
     while place < text.len() {
-        let line = read_job(text, place);
-        let JobLine::Starts(job, start, next) = line else {
-            return broken();
-        };
-        ordered = in_order(ordered, job, k);
-        store(&mut starts, k, start);
-        place = next;
-        k = k + 1;
+        let line = read_job(text, place)?;
+        ordered = in_order(ordered, line.job, k);
+        store(&mut starts, k, line.start);
+        place = line.next;
+        k += 1;
     }
-    Lines {
-        formed: true,
+    Some(Lines {
         count: k,
-        ordered: ordered,
-        starts: starts,
-    }
+        ordered,
+        starts,
+    })
 }
 
 // The B0 line's n is the batch's, and the lines name the jobs 0 to n - 1 in order.
@@ -78,5 +59,5 @@ pub fn names_jobs(due: u8, n: u8, ordered: bool, count: usize) -> bool
     if n != due {
         return false;
     }
-    ordered && count == wide(due)
+    ordered && count == usize::from(due)
 }

@@ -1,16 +1,7 @@
 -- `job_lines::store` meets its contract, by whether there is room.
-use borrow.Author.Rules.{rules}
 use borrow.Author.Tests.{lt-ltb, le-ltb}
 use Rattle.claims.specs.JobLines.{stored}
 use Rattle.claims.proofs.job_lines.store.Goals as goal
-
-pub offset_bounds-starts-k : goal.offset_bounds-starts-k
-unfolding stored
-offset_bounds-starts-k c = search rules
-
-pub bounds-starts-k : goal.bounds-starts-k
-unfolding stored
-bounds-starts-k c = search rules
 
 pub returns-then-k-lt24 : goal.returns-then-k-lt24
 unfolding stored
