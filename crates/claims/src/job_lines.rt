@@ -13,6 +13,15 @@ pub struct Lines {
     pub starts: [u16; 24],
 }
 
+impl Lines {
+    // A B0 line's n is a batch's, and the lines name the jobs 0 to n - 1 in order.
+    pub fn names_jobs(&self, claimed: u8, n: u8) -> bool
+        ensures { result ≡ (eqb claimed n && (self.now.ordered && eqb self.now.count n)) }
+    {
+        claimed == n && self.ordered && self.count == usize::from(n)
+    }
+}
+
 // The jobs so far are in order, and this one is number k.
 fn in_order(ordered: bool, job: u8, k: usize) -> bool
     ensures { result ≡ (ordered && eqb job k) }
@@ -50,14 +59,4 @@ pub fn read_lines(text: &[u8], at: usize) -> Option<Lines>
         ordered,
         starts,
     })
-}
-
-// The B0 line's n is the batch's, and the lines name the jobs 0 to n - 1 in order.
-pub fn names_jobs(due: u8, n: u8, ordered: bool, count: usize) -> bool
-    ensures { result ≡ (eqb n due && (ordered && eqb count due)) }
-{
-    if n != due {
-        return false;
-    }
-    ordered && count == usize::from(due)
 }

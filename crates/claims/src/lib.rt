@@ -5,4 +5,4 @@ mod claim;
 mod job_lines;
 
 pub use claim::{Head, read_head};
-pub use job_lines::{Lines, names_jobs, read_lines};
+pub use job_lines::{Lines, read_lines};

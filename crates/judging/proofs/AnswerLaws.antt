@@ -30,7 +30,6 @@ use Rattle.model.proofs.OpenLaws.{open_format}
 use Rattle.model.proofs.JudgeLaws.{jobs_iff, starts_length}
 use Rattle.claims.specs.declared.job_lines.Lines.{Lines}
 use Rattle.claims.specs.declared.claim.Head.{Head}
-use Rattle.claims.specs.declared.claim.Head.TheVariants.{Read, Broken}
 use Rattle.claims.specs.Claim.{ReadsHead}
 use Rattle.claims.specs.JobLines.{lines_told}
 use Rattle.judging.proofs.PlanLaws.{valid_agree, latency_agree}

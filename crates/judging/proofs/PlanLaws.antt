@@ -27,8 +27,6 @@ use Rattle.model.proofs.SeqLaws.{listed_cong}
 use Rattle.model.proofs.AllLaws.{all_from, all_start, all_passed, all_failed}
 use Rattle.model.proofs.LimitLaws.{le_z_iff}
 use Rattle.clashes.specs.declared.Clashes.{Clashes}
-use Rattle.clashes.specs.declared.Met.{Met}
-use Rattle.clashes.specs.declared.Met.TheVariants as found
 use Rattle.clashes.specs.List.{list_of}
 use Rattle.clashes.specs.First.{Known, Unmet, met_of, first_code}
 use Rattle.clashes.proofs.FirstLaws.{unmet_none, first_agree}
@@ -114,15 +112,11 @@ end_told b us i x h e = e ∙ ap (λ (w : Window). between w.earliest (get_or us
 
 -- ---- clashes
 
-met_some : (o : Option ℕ) (k : ℕ) → met_of o ≡ found.Clash k → true ≡ is_some o
+-- whether there is one, as Rust's Option says
+pub found_is : (o : Option ℕ) → tests (met_of o) ≡ is_some o
 unfolding met_of is_some
-met_some none k e = let z : ◌≡◌ {A = ℕ} 0 1 = cc in absurd (omega arith)
-met_some (some j) k e = refl
-
-met_none : (o : Option ℕ) → met_of o ≡ found.Nothing → false ≡ is_some o
-unfolding met_of is_some
-met_none none e = refl
-met_none (some j) e = let z : ◌≡◌ {A = ℕ} 0 1 = cc in absurd (omega arith)
+found_is none = refl
+found_is (some k) = refl
 
 module _ (b : Batch) (w : Within b) (f : few_clashes b ≡ true) (l : Clashes) (e : l ≡ list_of b) where
   few : length (clashes b) ≤ 1024
@@ -133,15 +127,8 @@ module _ (b : Batch) (w : Within b) (f : few_clashes b ≡ true) (l : Clashes) (
   pub clashes_fit : (us : List ℕ) → ((0 ≤ l.count) × (l.count ≤ 1024)) × (Known l.codes l.count × Unmet l.codes us 0)
   clashes_fit us = ((omega arith, list_fits b l e few), (list_known b l e few (within_tabled b w), unmet_none l.codes us))
 
-  module _ (us : List ℕ) (m : Met) (is : m ≡ first_code l.codes l.count us) where
-    told : m ≡ met_of (first_met (clashes b) us 0)
-    told = is ∙ first_listed b l e few (within_tabled b w) us us (λ i h. refl)
-
-    pub clash_met : (k : ℕ) → m ≡ found.Clash k → true ≡ is_some (first_met (clashes b) us 0)
-    clash_met k h = met_some _ k (sym told ∙ h)
-
-    pub none_met : m ≡ found.Nothing → false ≡ is_some (first_met (clashes b) us 0)
-    none_met h = met_none _ (sym told ∙ h)
+  pub first_told : (us : List ℕ) → first_code l.codes l.count us ≡ met_of (first_met (clashes b) us 0)
+  first_told us = first_listed b l e few (within_tabled b w) us us (λ i h. refl)
 
 -- ---- one test after the other
 

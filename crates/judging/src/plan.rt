@@ -9,8 +9,8 @@ ghost use Rattle.model.specs.Format.{Within};
 ghost use Rattle.model.specs.Open.{few_clashes};
 ghost use Rattle.model.specs.Judge.{keeps, keeps_ends, valid};
 
-use clashes::{Met, first_met, list_clashes};
-use model::{Batch, Window, wide, wide16};
+use clashes::{first_met, list_clashes};
+use model::{Batch, Window};
 use times::stays::stays_of;
 use weights::delays::read_delays;
 
@@ -19,9 +19,9 @@ fn is_kept(from: u8, to: u8, code: u16, starts: &[u16; 24]) -> bool
     requires { (from < 24) × (to < 24) }
     ensures { result ≡ leb (get_or starts.now from 0 + 1000) (get_or starts.now to 0 + code) }
 {
-    let start_from = starts[wide(from)];
-    let start_to = starts[wide(to)];
-    wide16(start_from) + 1000 <= wide16(start_to) + wide16(code)
+    let start_from = starts[usize::from(from)];
+    let start_to = starts[usize::from(to)];
+    usize::from(start_from) + 1000 <= usize::from(start_to) + usize::from(code)
 }
 
 // Each delay is kept.
@@ -29,18 +29,15 @@ fn keeps_delays(batch: Batch, starts: &[u16; 24]) -> bool
     requires { Within batch }
     ensures { result ≡ all (keeps starts.now) (delays_of batch) }
 {
-    let m = wide(batch.m);
     let read = read_delays(batch);
     let delays = read.delays;
     let from = delays.from;
     let to = delays.to;
     let code = delays.code;
-    let mut k: usize = 0;
-    while k < m {
+    for k in 0..usize::from(batch.m) {
         if !is_kept(from[k], to[k], code[k], starts) {
             return false;
         }
-        k = k + 1;
     }
     true
 }
@@ -57,14 +54,10 @@ fn keeps_ends(batch: Batch, starts: &[u16; 24]) -> bool
     requires { Within batch }
     ensures { result ≡ keeps_ends batch starts.now }
 {
-    let n = wide(batch.n);
-    let mut i: usize = 0;
-    while i < n {
-        let window = batch.windows[i];
-        if !is_within(window, starts[i]) {
+    for i in 0..usize::from(batch.n) {
+        if !is_within(batch.windows[i], starts[i]) {
             return false;
         }
-        i = i + 1;
     }
     true
 }
@@ -76,11 +69,7 @@ fn meets_clash(batch: Batch, starts: &[u16; 24]) -> bool
 {
     let mut codes = [0u16; 1024];
     let count = list_clashes(batch, &mut codes);
-    let met = first_met(&codes, 0, count, starts);
-    match met {
-        Met::Clash(_) => true,
-        Met::Nothing => false,
-    }
+    first_met(&codes, 0, count, starts).is_some()
 }
 
 // The starts keep every delay and every job's ends, and no two jobs hold one station in one tick.
@@ -88,10 +77,7 @@ fn is_valid(batch: Batch, starts: &[u16; 24]) -> bool
     requires { Within batch × (few_clashes batch ≡ true) }
     ensures { result ≡ valid batch starts.now }
 {
-    if !keeps_delays(batch, starts) {
-        return false;
-    }
-    keeps_ends(batch, starts) && !meets_clash(batch, starts)
+    keeps_delays(batch, starts) && keeps_ends(batch, starts) && !meets_clash(batch, starts)
 }
 
 // The largest finish.
@@ -99,16 +85,11 @@ fn latency_of(batch: Batch, starts: &[u16; 24]) -> usize
     requires { Within batch }
     ensures { result ≡ latency batch starts.now }
 {
-    let n = wide(batch.n);
     let stays = stays_of(batch);
     let mut latest: usize = 0;
-    let mut i: usize = 0;
-    while i < n {
-        let finish = wide16(starts[i]) + wide(stays[i]);
-        if latest < finish {
-            latest = finish;
-        }
-        i = i + 1;
+    for i in 0..usize::from(batch.n) {
+        let finish = usize::from(starts[i]) + usize::from(stays[i]);
+        latest = latest.max(finish);
     }
     latest
 }
@@ -118,5 +99,5 @@ pub fn is_right(batch: Batch, starts: &[u16; 24], claimed: u16) -> bool
     requires { Within batch × (few_clashes batch ≡ true) }
     ensures { result ≡ (valid batch starts.now && eqb (latency batch starts.now) claimed) }
 {
-    is_valid(batch, starts) && latency_of(batch, starts) == wide16(claimed)
+    is_valid(batch, starts) && latency_of(batch, starts) == usize::from(claimed)
 }

@@ -1,12 +1,8 @@
 -- `plan::keeps_delays` meets its contract. The invariant: the delays from k on decide.
-use Prim.Native.Nat.{◌-◌}
 use mathlib.Core.Path.{◌≡◌}
 use Rattle.model.proofs.AllLaws.{all_from}
 use Rattle.judging.proofs.PlanLaws.{kept_test}
 use Rattle.judging.proofs.plan.keeps_delays.Given as goal
 
 abbrev pub invariant-loop-k : goal.invariant-loop-k
-invariant-loop-k l = all_from (kept_test l.starts l.from l.to l.code) l.k l.m ≡ all_from (kept_test l.starts l.from l.to l.code) 0 l.m
-
-abbrev pub decreases-loop-k : goal.decreases-loop-k
-decreases-loop-k l = l.m - l.k
+invariant-loop-k l = all_from (kept_test l.starts l.from l.to l.code) l.k l.k-end ≡ all_from (kept_test l.starts l.from l.to l.code) 0 l.k-end

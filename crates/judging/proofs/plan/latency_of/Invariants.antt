@@ -1,11 +1,7 @@
 -- `plan::latency_of` meets its contract. The invariant: the largest finish of the first i jobs.
-use Prim.Native.Nat.{◌≤◌, ◌-◌}
 use mathlib.Core.Path.{◌≡◌}
 use Rattle.times.specs.Latency.{latency_of}
 use Rattle.judging.proofs.plan.latency_of.Given as goal
 
 abbrev pub invariant-loop-i : goal.invariant-loop-i
-invariant-loop-i l = (l.i ≤ l.n) × (l.latest ≡ latency_of l.stays l.starts l.i)
-
-abbrev pub decreases-loop-i : goal.decreases-loop-i
-decreases-loop-i l = l.n - l.i
+invariant-loop-i l = l.latest ≡ latency_of l.stays l.starts l.i
