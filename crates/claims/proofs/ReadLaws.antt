@@ -1,12 +1,12 @@
 -- A line of a plan text, by the first of its tests that fails.
 use Rattle.std.specs.Prelude.{Some, None}
-use Prim.Native.Nat.{ℕ, ◌+◌, ◌-◌, ◌*◌, ◌/◌, ◌≤◌, ◌<◌}
-use mathlib.Core.Path.{◌≡◌, refl, ap, ap₂, sym, ◌∙◌, subst}
+use Prim.Native.Nat.{ℕ, ◌+◌, ◌-◌, ◌*◌, ◌/◌, ◌<◌}
+use mathlib.Core.Path.{◌≡◌, refl, ap, ap₂, sym, ◌∙◌}
 use mathlib.Core.Bool.{Bool, true, false, ◌&&◌, not}
 use mathlib.Core.Option.{none}
 use mathlib.Core.List.{List, [], ◌∷◌}
 use native.Mathlib.Omega.{arith}
-use lib.ListN.{length, drop}
+use lib.ListN.{drop}
 use lib.Dec.{eqb}
 use borrow.Author.Tests.{eq-eqb, ne_eqb}
 use Rattle.model.specs.Common.{is_empty, Outcome, refuse, accept, ◌>>=◌, require, given}
@@ -20,8 +20,6 @@ use Rattle.frame_read.specs.Frame.{frame_at, Inside}
 use Rattle.frame_read.proofs.Tests.{refuses_require}
 use Rattle.frame_read.proofs.Bytes.{frame_size, framed_inside}
 use Rattle.frame_read.proofs.One.{one_refused, one_read}
-use Rattle.claims.specs.declared.claim.Head.{Head}
-use Rattle.claims.specs.declared.claim.JobLine.{JobLine}
 use Rattle.claims.specs.Claim.{ReadsHead, ReadsJob}
 
 -- no line: refused, whichever the number

@@ -1,5 +1,5 @@
 -- All B1 lines of a plan text: what is kept of them.
-use Rattle.std.specs.Prelude.{ℕ, List, Option, Some, None, map, length, take, set, replicate, ltb, if◌then◌else◌}
+use Rattle.std.specs.Prelude.{ℕ, List, Option, Some, None, map, length, take, set, ltb, if◌then◌else◌}
 use Rattle.model.specs.Common.{count, pad, Outcome, refuse, accept}
 use Rattle.model.specs.Limits.{most_jobs}
 use Rattle.model.specs.Starts.{same}

@@ -3,7 +3,7 @@ ghost use Rattle.std.specs.Prelude.{◌≤◌, length};
 ghost use Rattle.claims.specs.Claim.{ReadsHead, ReadsJob};
 
 use frame_read::frame::{frame_byte, frame_is, frame_wide};
-use lines::{Line, line_at};
+use lines::line_at;
 
 // What a B0 line with 01 says, and the place behind it. The total is not judged, and not read.
 #[derive(Clone, Copy)]
@@ -25,10 +25,7 @@ pub struct JobLine {
 pub fn read_head(text: &[u8]) -> Option<Head>
     ensures { ReadsHead text.now result }
 {
-    let line = line_at(text, 0);
-    let Line::Frame(end) = line else {
-        return None;
-    };
+    let end = line_at(text, 0)?;
     let size = end / 2;
     if !frame_is(text, 0, size, 0xB0, 9) {
         return None;
@@ -50,10 +47,7 @@ pub fn read_job(text: &[u8], at: usize) -> Option<JobLine>
     requires { at ≤ length text.now }
     ensures { ReadsJob text.now at result }
 {
-    let line = line_at(text, at);
-    let Line::Frame(end) = line else {
-        return None;
-    };
+    let end = line_at(text, at)?;
     let size = (end - at) / 2;
     if !frame_is(text, at, size, 0xB1, 4) {
         return None;
