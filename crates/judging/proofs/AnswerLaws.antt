@@ -1,4 +1,5 @@
 -- The answer of judging, by the first of 17, 18 and 19 that holds.
+use Rattle.std.specs.Prelude.{Some, None}
 use Prim.Native.Nat.{ℕ, ◌≤◌}
 use mathlib.Core.Path.{◌≡◌, refl, ap, ap₂, sym, ◌∙◌, subst}
 use mathlib.Core.Bool.{Bool, true, false, ◌&&◌, not}
@@ -36,16 +37,17 @@ use Rattle.judging.proofs.PlanLaws.{valid_agree, latency_agree}
 
 -- ---- the lines
 
--- lines that are in form
-lines_formed : (o : Outcome (List (ℕ × ℕ))) → (lines_told o).formed ≡ true → (qs : List (ℕ × ℕ)) × (o ≡ accept qs)
+-- lines that are read
+lines_read : (o : Outcome (List (ℕ × ℕ))) (l : Lines) → Some l ≡ lines_told o → (qs : List (ℕ × ℕ)) × (o ≡ accept qs)
 unfolding lines_told
-lines_formed (refuse k) e = apart e
-lines_formed (accept qs) e = (qs, refl)
+lines_read (refuse k) l e = cc
+lines_read (accept qs) l e = (qs, refl)
 
-lines_broken : (o : Outcome (List (ℕ × ℕ))) → (lines_told o).formed ≡ false → (k : ℕ) × (o ≡ refuse k)
+-- lines that are not
+lines_broken : (o : Outcome (List (ℕ × ℕ))) → None ≡ lines_told o → (k : ℕ) × (o ≡ refuse k)
 unfolding lines_told
 lines_broken (refuse k) e = (k, refl)
-lines_broken (accept qs) e = apart (sym e)
+lines_broken (accept qs) e = cc
 
 -- the jobs are 0 to n − 1 when they are in order and n
 in_order : (js : List ℕ) (n : ℕ) → (same js (count 0 (length js)) && eqb (length js) n) ≡ same js (count 0 n)
@@ -61,30 +63,35 @@ starts_at_lem ts h i = rw (take_all most_jobs ts h) (pad_at most_jobs 0 ts i)
 
 -- ---- the answers
 
-module _ (b : Batch) (within : Within b) (text : List ℕ) (h : Head) (read : ReadsHead text h) where
+module _ (b : Batch) (within : Within b) (text : List ℕ) where
   -- no B0 line with 01
-  pub no_head : h ≡ Broken → Refused 17 ≡ judged_as (judge_text b text)
-  unfolding judged_as judge_text read_claim as17 ◌>>=◌ ReadsHead
-  no_head e = let (k, z) = subst (ReadsHead text) e read in rw z
+  pub no_head : ReadsHead text None → refuse 17 ≡ judge_text b text
+  unfolding judge_text read_claim as17 ◌>>=◌ ReadsHead
+  no_head h = let (k, z) = h in rw z
 
-  module _ (n l next : ℕ) (is : h ≡ Read n l next) (lines : Lines) (told : lines ≡ lines_told (read_lines (drop next text))) where
-    found : (total : ℕ) × (read_one claim_head text ≡ accept ((n, l, total), drop next text))
+  module _ (h : Head) (read : ReadsHead text (Some h)) where
+    -- the place behind it
+    pub head_place : h.next ≤ length text
     unfolding ReadsHead
-    found = let (inside, total, e) = subst (ReadsHead text) is read in (total, e)
+    head_place = read.0
+
+    found : (total : ℕ) × (read_one claim_head text ≡ accept ((h.n, h.latency, total), drop h.next text))
+    unfolding ReadsHead
+    found = let (inside, total, e) = read in (total, e)
 
     -- not only B1 lines after it
-    pub no_lines : not lines.formed ≡ true → Refused 17 ≡ judged_as (judge_text b text)
-    unfolding judged_as judge_text read_claim as17 ◌>>=◌
-    no_lines e = let (k, z) = lines_broken _ (fails (ap (λ (x : Lines). x.formed) told) e) in rw (found.1, z)
+    pub no_lines : None ≡ lines_told (read_lines (drop h.next text)) → refuse 17 ≡ judge_text b text
+    unfolding judge_text read_claim as17 ◌>>=◌
+    no_lines e = let (k, z) = lines_broken _ e in rw (found.1, z)
 
-    module _ (formed : not lines.formed ≡ false) where
-      abbrev qs : (qs : List (ℕ × ℕ)) × (read_lines (drop next text) ≡ accept qs)
-      qs = lines_formed _ (passes (ap (λ (x : Lines). x.formed) told) formed)
+    module _ (lines : Lines) (told : Some lines ≡ lines_told (read_lines (drop h.next text))) where
+      abbrev qs : (qs : List (ℕ × ℕ)) × (read_lines (drop h.next text) ≡ accept qs)
+      qs = lines_read _ lines told
 
       abbrev claim : Claim
-      claim = record { n = n; latency = l; total = found.0; lines = qs.0 }
+      claim = record { n = h.n; latency = h.latency; total = found.0; lines = qs.0 }
 
-      so : lines ≡ lines_told (accept qs.0)
+      so : Some lines ≡ lines_told (accept qs.0)
       so = told ∙ ap lines_told qs.1
 
       reads : judge_text b text ≡ (require 18 (jobs_right b claim) >>= λ u. require 19 (plan_right b claim))
@@ -92,36 +99,39 @@ module _ (b : Batch) (within : Within b) (text : List ℕ) (h : Head) (read : Re
       reads = accepts_bind _ (ap as17 (accepts_bind _ found.1 ∙ accepts_bind _ qs.1))
 
       -- the test of the jobs
-      jobs : (eqb n b.n && (lines.ordered && eqb lines.count b.n)) ≡ jobs_right b claim
+      jobs : (eqb h.n b.n && (lines.ordered && eqb lines.count b.n)) ≡ jobs_right b claim
       unfolding jobs_right jobs_in lines_told
       jobs =
           let js = map (λ q. q.0) qs.0 in
-          ap (λ (x : Lines). eqb n b.n && (x.ordered && eqb x.count b.n)) so
-          ∙ ap (λ (t : Bool). eqb n b.n && t) (ap (λ (k : ℕ). same js (count 0 k) && eqb k b.n) (sym (length-map qs.0 _)) ∙ in_order js b.n)
+          let ordered : lines.ordered ≡ same js (count 0 (length qs.0)) = cc so in
+          let size : lines.count ≡ length qs.0 = cc so in
+          ap₂ (λ (t : Bool) (k : ℕ). eqb h.n b.n && (t && eqb k b.n)) ordered size
+          ∙ ap (λ (t : Bool). eqb h.n b.n && t) (ap (λ (k : ℕ). same js (count 0 k) && eqb k b.n) (sym (length-map qs.0 _)) ∙ in_order js b.n)
 
-      module _ (t : Bool) (asked : t ≡ (eqb n b.n && (lines.ordered && eqb lines.count b.n))) where
+      module _ (t : Bool) (asked : t ≡ (eqb h.n b.n && (lines.ordered && eqb lines.count b.n))) where
         -- other jobs
-        pub no_jobs : not t ≡ true → Refused 18 ≡ judged_as (judge_text b text)
-        unfolding judged_as require ◌>>=◌
+        pub no_jobs : not t ≡ true → refuse 18 ≡ judge_text b text
+        unfolding require ◌>>=◌
         no_jobs e = rw (reads, fails (asked ∙ jobs) e)
 
         module _ (named : not t ≡ false) where
           -- the test of the plan
-          plan : (valid b lines.starts && eqb (latency b lines.starts) l) ≡ plan_right b claim
+          plan : (valid b lines.starts && eqb (latency b lines.starts) h.latency) ≡ plan_right b claim
           unfolding plan_right starts_in lines_told
           plan =
               let ts = starts_in claim in
+              let starts : lines.starts ≡ pad most_jobs 0 (take most_jobs ts) = cc so in
               let agree : (i : ℕ) → start (pad most_jobs 0 (take most_jobs ts)) i ≡ start ts i = λ i. starts_at_lem ts (omega (arith, starts_length b claim ((jobs_iff b claim).0 (passes (asked ∙ jobs) named)), within.jobs.1)) i in
-              ap (λ (x : Lines). valid b x.starts && eqb (latency b x.starts) l) so
-              ∙ ap₂ (λ (p : Bool) (x : ℕ). p && eqb x l) (valid_agree b _ ts agree) (latency_agree b _ ts agree)
+              ap (λ (x : List ℕ). valid b x && eqb (latency b x) h.latency) starts
+              ∙ ap₂ (λ (p : Bool) (x : ℕ). p && eqb x h.latency) (valid_agree b _ ts agree) (latency_agree b _ ts agree)
 
-          module _ (t' : Bool) (asked' : t' ≡ (valid b lines.starts && eqb (latency b lines.starts) l)) where
-            pub no_plan_lem : not t' ≡ true → Refused 19 ≡ judged_as (judge_text b text)
-            unfolding judged_as require ◌>>=◌
+          module _ (t' : Bool) (asked' : t' ≡ (valid b lines.starts && eqb (latency b lines.starts) h.latency)) where
+            pub no_plan_lem : not t' ≡ true → refuse 19 ≡ judge_text b text
+            unfolding require ◌>>=◌
             no_plan_lem e = rw (reads, passes (asked ∙ jobs) named, fails (asked' ∙ plan) e)
 
-            pub right_plan : not t' ≡ false → Passed ≡ judged_as (judge_text b text)
-            unfolding judged_as require ◌>>=◌
+            pub right_plan : not t' ≡ false → accept tt ≡ judge_text b text
+            unfolding require ◌>>=◌
             right_plan e = rw (reads, passes (asked ∙ jobs) named, passes (asked' ∙ plan) e)
 
 -- ---- the file

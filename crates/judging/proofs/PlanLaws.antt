@@ -1,4 +1,5 @@
 -- A plan tested by arrays: the delays as they are read, the clashes as they are listed, and starts that stand in 24 places.
+use Rattle.std.specs.Prelude.{is_some as holds}
 use Prim.Native.Nat.{ℕ, ◌+◌, ◌≤◌, ◌<◌, max}
 use mathlib.Core.Path.{◌≡◌, refl, ap, ap₂, sym, subst, ◌∙◌}
 use mathlib.Core.Bool.{Bool, true, false, ◌&&◌, not}
@@ -113,7 +114,7 @@ end_told b us i x h e = e ∙ ap (λ (w : Window). between w.earliest (get_or us
 -- ---- clashes
 
 -- whether there is one, as Rust's Option says
-pub found_is : (o : Option ℕ) → tests (met_of o) ≡ is_some o
+found_is : (o : Option ℕ) → holds (met_of o) ≡ is_some o
 unfolding met_of is_some
 found_is none = refl
 found_is (some k) = refl
@@ -127,8 +128,9 @@ module _ (b : Batch) (w : Within b) (f : few_clashes b ≡ true) (l : Clashes) (
   pub clashes_fit : (us : List ℕ) → ((0 ≤ l.count) × (l.count ≤ 1024)) × (Known l.codes l.count × Unmet l.codes us 0)
   clashes_fit us = ((omega arith, list_fits b l e few), (list_known b l e few (within_tabled b w), unmet_none l.codes us))
 
-  pub first_told : (us : List ℕ) → first_code l.codes l.count us ≡ met_of (first_met (clashes b) us 0)
-  first_told us = first_listed b l e few (within_tabled b w) us us (λ i h. refl)
+  -- whether there is one
+  pub clash_told : (us : List ℕ) → holds (first_code l.codes l.count us) ≡ is_some (first_met (clashes b) us 0)
+  clash_told us = ap holds (first_listed b l e few (within_tabled b w) us us (λ i h. refl)) ∙ found_is (first_met (clashes b) us 0)
 
 -- ---- one test after the other
 

@@ -31,11 +31,8 @@ fn keeps_delays(batch: Batch, starts: &[u16; 24]) -> bool
 {
     let read = read_delays(batch);
     let delays = read.delays;
-    let from = delays.from;
-    let to = delays.to;
-    let code = delays.code;
     for k in 0..usize::from(batch.m) {
-        if !is_kept(from[k], to[k], code[k], starts) {
+        if !is_kept(delays.from[k], delays.to[k], delays.code[k], starts) {
             return false;
         }
     }

@@ -14,7 +14,8 @@ loop-i-init c = sym (latency_none _ _)
 
 -- the larger of the two
 pub loop-i-preserved : goal.loop-i-preserved
-loop-i-preserved c = ?
+loop-i-preserved c = rw latency_more (omega (arith, c.loop-i.invariant))
 
 pub returns : goal.returns
-returns c = ?
+returns c = let whole : c.loop-i.i ≡ c.args.batch.n = omega arith in
+    rw (whole, c.stays_of-stays.ensures) at c.loop-i.invariant ∙ latency_law _ c.requires.jobs.1 _ _ (λ i h. refl)
