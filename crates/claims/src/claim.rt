@@ -2,7 +2,7 @@
 ghost use Rattle.std.specs.Prelude.{◌≤◌, length};
 ghost use Rattle.claims.specs.Claim.{ReadsHead, ReadsJob};
 
-use frame_read::frame::{frame_byte, frame_is, frame_wide};
+use frame_read::frame::Frame;
 use lines::line_at;
 
 // What a B0 line with 01 says, and the place behind it. The total is not judged, and not read.
@@ -26,15 +26,15 @@ pub fn read_head(text: &[u8]) -> Option<Head>
     ensures { ReadsHead text.now result }
 {
     let end = line_at(text, 0)?;
-    let size = end / 2;
-    if !frame_is(text, 0, size, 0xB0, 9) {
+    let frame = Frame::new(text, 0, end);
+    if !frame.is(0xB0, 9) {
         return None;
     }
-    if frame_byte(text, 0, size, 1) != 1 {
+    if frame.byte(1) != 1 {
         return None;
     }
-    let n = frame_byte(text, 0, size, 2);
-    let latency = frame_wide(text, 0, size, 3);
+    let n = frame.byte(2);
+    let latency = frame.wide(3);
     Some(Head {
         n,
         latency,
@@ -48,12 +48,12 @@ pub fn read_job(text: &[u8], at: usize) -> Option<JobLine>
     ensures { ReadsJob text.now at result }
 {
     let end = line_at(text, at)?;
-    let size = (end - at) / 2;
-    if !frame_is(text, at, size, 0xB1, 4) {
+    let frame = Frame::new(text, at, end);
+    if !frame.is(0xB1, 4) {
         return None;
     }
-    let job = frame_byte(text, at, size, 1);
-    let start = frame_wide(text, at, size, 2);
+    let job = frame.byte(1);
+    let start = frame.wide(2);
     Some(JobLine {
         job,
         start,
