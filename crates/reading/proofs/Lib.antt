@@ -1,7 +1,4 @@
--- Laws about reading a whole file, frame after frame. They serve the proofs here; opening takes `Told`.
+-- Laws about reading a whole file, frame after frame. They serve the proofs here.
 pub mod Reading
 pub mod Told
-pub mod Places
-pub mod EndLaws
-pub mod BodyLaws
 pub mod FileLaws

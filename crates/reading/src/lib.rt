@@ -2,7 +2,6 @@
 #![tactic(auto)]
 
 mod batch;
-mod delays;
-mod jobs;
+mod frames;
 
-pub use batch::{BatchRead, blank_batch, read_batch};
+pub use batch::{blank_batch, read_batch};
