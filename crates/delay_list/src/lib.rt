@@ -8,6 +8,7 @@ ghost use Rattle.delay_list.specs.Columns.{columns_of, delay_at};
 use model::Delay;
 
 // Place k of each column is a part of delay k. The places past the last delay are 0.
+// The columns stay: the law ColumnLaws.batch_delays, which the page of promises names, speaks of them.
 #[derive(Clone, Copy)]
 pub struct Columns {
     pub from: [u8; 128],
