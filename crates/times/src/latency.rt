@@ -1,33 +1,8 @@
 // The latency of starts, the largest sum of a start and a stay, as a value that starts raise. Past n both arrays hold 0, so that all 24 places may be taken: a
 // loop of known length is one that the compiler takes a whole row at a time.
-ghost use Rattle.std.specs.Prelude.{◌≡◌, ◌-◌, max};
+ghost use Rattle.std.specs.Prelude.{◌≡◌};
 ghost use Rattle.times.specs.Fill.{Small};
 ghost use Rattle.times.specs.Latency.{raised_by};
-
-pub fn larger(a: u16, b: u16) -> u16
-    ensures { result ≡ max a b }
-{
-    if a < b {
-        return b;
-    }
-    a
-}
-
-// The difference, or 0 where that is below 0.
-pub fn minus(a: u16, b: u16) -> u16
-    ensures { result ≡ a - b }
-{
-    if a < b {
-        return 0;
-    }
-    a - b
-}
-
-pub fn stay_wide(x: u8) -> u16
-    ensures { result ≡ x }
-{
-    x as u16
-}
 
 // The largest of a latency and the finishes of these starts.
 pub fn raised_latency(latency: u16, stays: &[u8; 24], starts: &[u16; 24]) -> u16
