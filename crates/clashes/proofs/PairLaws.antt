@@ -18,7 +18,7 @@ use Rattle.model.proofs.DistanceLaws.{close_le, le_close}
 use Rattle.model.proofs.ClashLaws.{Shared, clashing_shared, shared_clashing, in_plan}
 use Rattle.clashes.specs.declared.Clashes.{Clashes}
 use Rattle.clashes.specs.Code.{lift, code_of}
-use Rattle.tables.specs.Tables.{table_of, tables_meet}
+use Rattle.tables.specs.Tables.{tables_meet}
 use Rattle.tables.specs.Rest.{Longest, Widens}
 use Rattle.clashes.specs.List.{put, add_all, pair_codes, Grown, Tabled}
 use Rattle.clashes.proofs.SeqLaws.{keep_map}
@@ -85,11 +85,6 @@ module _ (low end : ℕ) (places : List ℕ) (second : Job) (base : ℕ) where
       let e : k + (45 - k) ≡ 45 = omega (arith, p.within) in
       pair_end from l 45
       (rw e at (pair_skip from l k (45 - k) p (omega (arith, p.within)) (λ x a b. tables_apart low end places second x (inr (omega arith))))) (omega arith)
-
--- the second table's ticks are the result of a call
-pub pair_jobs : (low end : ℕ) (places : List ℕ) (second : Job) (base q : ℕ) (from l : Clashes) → q ≡ second.ticks → Grown from l (pair_codes low end places (table_of q second.masks) base) 45
-    → Grown from l (pair_codes low end places second base) 45
-pair_jobs low end places second base q from l g h = rw g at h
 
 -- ---- the clashes of two jobs of a batch, from the one's table widened and the other's as it is
 

@@ -70,14 +70,14 @@ module _ (b : Batch) (t : Tabled b) where
   job_short i h = rw (job_ticks b i) (t.short i h)
 
   -- one turn of the loop over j
-  pub row_more : (i w low end p : ℕ) (places : List ℕ) (from l m : Clashes) (j : ℕ) → i < b.n → Longest b.rests w 16
-      → Widens b.rests (job_at b i) (7 - w) (7 + (job_at b i).ticks + w) places → low ≡ 7 - w → p ≡ (job_at b i).ticks → end ≡ 7 + p + w
+  pub row_more : (i w low end : ℕ) (places : List ℕ) (from l m : Clashes) (j : ℕ) → i < b.n → Longest b.rests w 16
+      → low ≡ 7 - w → end ≡ 7 + (job_at b i).ticks + w → Widens b.rests (job_at b i) low end places
       → Growing (clashes_of b i) 45 (suc i) b.n from l j → j < b.n
       → Grown l m (pair_codes low end places (job_at b j) (i * 2048 + j * 64)) 45 → Growing (clashes_of b i) 45 (suc i) b.n from m (j + 1)
   unfolding job_of ticks
-  row_more i w low end p places from l m j hi longest wide el ep ee g hj s =
-      let wide' : Widens b.rests (job_of b i) (7 - w) (7 + ticks b i + w) places = rw (job_ticks b i) at (widens_same (job_at b i) (job_of b i) (job_ticks b i) (job_masks b i) b.rests _ _ places wide) in
-      let e : pair_codes low end places (job_at b j) (i * 2048 + j * 64) ≡ map code_of (clashes_of b i j) = codes_same (job_at b j) (job_of b j) (job_ticks b j) (job_masks b j) low end places _ ∙ rw (el, ee, ep, job_ticks b i) (pair_codes_lem b t w longest places i j hi wide') in
+  row_more i w low end places from l m j hi longest el ee wide g hj s =
+      let wide' : Widens b.rests (job_of b i) (7 - w) (7 + ticks b i + w) places = rw (el, ee, job_ticks b i) at (widens_same (job_at b i) (job_of b i) (job_ticks b i) (job_masks b i) b.rests low end places wide) in
+      let e : pair_codes low end places (job_at b j) (i * 2048 + j * 64) ≡ map code_of (clashes_of b i j) = codes_same (job_at b j) (job_of b j) (job_ticks b j) (job_masks b j) low end places _ ∙ rw (el, ee, job_ticks b i) (pair_codes_lem b t w longest places i j hi wide') in
       grow_more (clashes_of b i) 45 (suc i) b.n from l m j g hj (rw e at s)
 
 -- after the last turn the row is complete

@@ -4,7 +4,7 @@ ghost use Rattle.clashes.specs.List.{put, pair_codes, list_of, Grown, Tabled};
 
 use crate::Clashes;
 use model::{Batch, Job};
-use tables::{close_masks, longest_rest, tables_meet, widened};
+use tables::{Places, close_masks, longest_rest, tables_meet, widened};
 
 // Counts a code, and stores it where there is room.
 fn put_code(clashes: &mut Clashes, code: usize)
@@ -17,23 +17,15 @@ fn put_code(clashes: &mut Clashes, code: usize)
     clashes.count += 1;
 }
 
-// Adds the clashes of two jobs, by rising distance; base is i * 2048 + j * 64. The first job's places from low on and before end count. Further apart
-// than these and the second's ticks reach, the tables do not meet.
-fn add_pair(
-    clashes: &mut Clashes,
-    low: usize,
-    end: usize,
-    first: &[u16; 30],
-    second: &Job,
-    base: usize,
-)
-    requires low_bound { (low ≤ 7) × ((7 ≤ end) × ((end ≤ 30) × (second.now.ticks ≤ 16))) }
+// Adds the clashes of two jobs, the first by its places, by rising distance; base is i * 2048 + j * 64. Further apart than the places and the second's
+// ticks reach, the tables do not meet.
+fn add_pair(clashes: &mut Clashes, first: &Places, second: &Job, base: usize)
+    requires low_bound { (first.now.low ≤ 7) × ((7 ≤ first.now.end) × ((first.now.end ≤ 30) × (second.now.ticks ≤ 16))) }
     requires count_bound { (clashes.old.count ≤ 30000) × (base ≤ 48576) }
-    ensures { Grown clashes.old clashes.new (pair_codes low end first.now second.now base) 45 }
+    ensures { Grown clashes.old clashes.new (pair_codes first.now.low first.now.end first.now.masks second.now base) 45 }
 {
-    let q = usize::from(second.ticks);
-    for k in low + 16 - q..end + 15 {
-        if tables_meet(low, end, first, q, &second.masks, k) {
+    for k in first.low + 16 - usize::from(second.ticks)..first.end + 15 {
+        if tables_meet(first, second, k) {
             put_code(clashes, base + k);
         }
     }
@@ -50,19 +42,9 @@ pub fn list_clashes(batch: &Batch, clashes: &mut Clashes)
     let close = close_masks(&batch.rests, longest);
     clashes.count = 0;
     for i in 0..n.saturating_sub(1) {
-        let first = batch.jobs[i];
-        let places = widened(first, &close, longest);
-        let end = 7 + usize::from(first.ticks) + longest;
+        let first = widened(&batch.jobs[i], &close, longest);
         for j in i + 1..n {
-            let second = &batch.jobs[j];
-            add_pair(
-                clashes,
-                7 - longest,
-                end,
-                &places,
-                second,
-                i * 2048 + j * 64,
-            );
+            add_pair(clashes, &first, &batch.jobs[j], i * 2048 + j * 64);
         }
     }
 }

@@ -1,18 +1,19 @@
 -- Tables widened by the rests: the longest rest, the stations for which ticks are too close, the stations of a place, and all places.
-use Prim.Native.Nat.{ℕ, zero, suc, ◌+◌, ◌-◌, ◌/◌, ◌%◌, ◌^◌, ◌≤◌, ◌<◌, max}
+use Prim.Native.Nat.{ℕ, zero, suc, ◌+◌, ◌-◌, ◌*◌, ◌/◌, ◌%◌, ◌^◌, ◌≤◌, ◌<◌}
 use mathlib.Core.Path.{◌≡◌, refl, sym, ap, ◌∙◌}
 use mathlib.Core.Logic.{◌⊎◌, inl, inr, ⊎_elim}
-use mathlib.Core.Bool.{Bool, true, false}
-use mathlib.Core.List.{List}
+use mathlib.Core.Bool.{true, false}
+use mathlib.Core.List.{List, ◌∷◌, ◌++◌}
 use native.Mathlib.Nat.{pow-suc}
 use native.Mathlib.Omega.{arith}
 use native.Mathlib.Decide.{ℕ_discrete, dec_lt}
-use lib.ListN.{length, get_or, set, replicate, length-set, length-replicate}
+use lib.ListN.{length, get_or, set, replicate, length-set, length-replicate, get_or-append}
 use lib.IntN.{sub_ℕ}
 use lib.Seq.{get_or-set_same, get_or-set_other}
 use lib.Bits.{bit_and, bit_or, and_step, or_step, and_shr, or_shr}
+use lib.Pow.{shl_exact}
 use lib.Dec.{leb}
-use borrow.Author.Tests.{leb-true, le-leb, eqb-true, eq-eqb}
+use borrow.Author.Tests.{leb-true, le-leb, lt-leb, eqb-true, eq-eqb}
 use Rattle.model.specs.declared.Job.{Job}
 use Rattle.model.specs.Batch.{bit}
 use Rattle.model.specs.Plan.{too_close}
@@ -20,8 +21,7 @@ use Rattle.model.proofs.BoolLaws.{apart, decide, same_test}
 use Rattle.model.proofs.SeqLaws.{blanks_at}
 use Rattle.model.proofs.BitLaws.{bit_zero, zero_bit, bit_suc, bit_none}
 use Rattle.model.proofs.DistanceLaws.{sum_sub, close_le, le_close}
-use Rattle.tables.specs.Tables.{table_of}
-use Rattle.tables.specs.Rest.{Resting, Longest, close_mask, CloseAt, Closes, Near, Widens}
+use Rattle.tables.specs.Rest.{Longest, CloseAt, Closes, Near, Widens}
 
 -- ---- bits
 
@@ -54,6 +54,10 @@ module _ (a b s : ℕ) where
   unfolding bit
   both_and p q = eq-eqb (bit_and a b / 2 ^ s % 2) 1 (rw (and_shr a b s) (omega (arith, eqb-true (a / 2 ^ s % 2) 1 p, eqb-true (b / 2 ^ s % 2) 1 q, and_step (a / 2 ^ s) (b / 2 ^ s))))
 
+-- 1 shifted by s is 2^s, which has 16 bits
+pub shifted : (s : ℕ) → s < 16 → 1 * 2 ^ s % 65536 ≡ 2 ^ s
+shifted s h = shl_exact 1 s 16 (omega arith) (omega arith) ∙ omega arith
+
 -- 2^s has bit s alone
 half : (s : ℕ) → 2 ^ suc s / 2 ≡ 2 ^ s
 half s = omega (arith, pow-suc 2 s)
@@ -68,48 +72,38 @@ pow_bit zero (suc t) e = absurd (bit_none (1 / 2) t refl (sym (bit_suc 1 t) ∙ 
 pow_bit (suc s) zero e = absurd (let z = bit_zero (2 ^ suc s) e in omega (arith, pow-suc 2 s))
 pow_bit (suc s) (suc t) e = ap suc (pow_bit s t (ap (λ (m : ℕ). bit m t) (sym (half s)) ∙ sym (bit_suc (2 ^ suc s) t) ∙ e))
 
--- ---- the longest rest
-
 module _ (rests : List ℕ) where
-  pub longest_none : Longest rests 0 0
-  longest_none = record { most = omega arith; each = λ s h. absurd (omega arith) }
-
-  pub longest_more : (w w' s : ℕ) → Resting rests → Longest rests w s → s < 16 → w' ≡ max w (get_or rests s 0) → Longest rests w' (s + 1)
-  longest_more w w' s r l h e =
-      record { most = omega (arith, l.most, r.each s h); each = λ t g. go t g (ℕ_discrete t s) }
-    where
-      go : (t : ℕ) → t < s + 1 → Dec (t ≡ s) → get_or rests t 0 ≤ w'
-      go t g (yes z) = rw z (omega arith)
-      go t g (no z) = omega (arith, l.each t (omega arith))
-
   -- ---- the stations for which ticks are too close
 
   pub close_none : (gap : ℕ) → CloseAt rests gap 0 0
   close_none gap = record { each = λ s h. absurd (omega arith); others = λ s h. decide (bit 0 s) (bit_none 0 s refl) }
 
-  pub close_more : (gap mask mask' n rest : ℕ) → CloseAt rests gap mask n → rest ≡ get_or rests n 0 → mask' ≡ close_mask mask n rest gap → CloseAt rests gap mask' (n + 1)
-  unfolding close_mask
-  close_more gap mask mask' n rest c e m = by (leb gap rest) refl
-    where
-      -- station n is added
-      at : (s : ℕ) → leb gap rest ≡ true → s < n + 1 → Dec (s ≡ n) → bit (bit_or mask (2 ^ n)) s ≡ leb gap (get_or rests s 0)
-      at s near h (yes z) = some_or mask (2 ^ n) s (inr (ap (bit (2 ^ n)) z ∙ bit_pow n)) ∙ sym (ap (λ (i : ℕ). leb gap (get_or rests i 0)) z ∙ ap (leb gap) (sym e) ∙ near)
-      at s near h (no z) =
-          same_test _ _
-          (λ t. sym (c.each s (omega arith)) ∙ ⊎_elim (λ p. p) (λ p. absurd (z (pow_bit n s p))) (or_some mask (2 ^ n) s t))
-          (λ t. some_or mask (2 ^ n) s (inl (c.each s (omega arith) ∙ t)))
+  module _ (gap mask n rest : ℕ) (c : CloseAt rests gap mask n) (e : rest ≡ get_or rests n 0) where
+    -- what is asked of station n
+    here : (s : ℕ) → s ≡ n → leb gap rest ≡ leb gap (get_or rests s 0)
+    here s z = ap (leb gap) e ∙ sym (ap (λ (i : ℕ). leb gap (get_or rests i 0)) z)
 
-      past : (s : ℕ) → n + 1 ≤ s → bit (bit_or mask (2 ^ n)) s ≡ false
-      past s h = decide (bit (bit_or mask (2 ^ n)) s) (λ t. ⊎_elim (λ p. apart (sym (c.others s (omega arith)) ∙ p)) (λ p. let z = pow_bit n s p in omega arith) (or_some mask (2 ^ n) s t))
+    -- it is added
+    pub close_in : gap ≤ rest → CloseAt rests gap (bit_or mask (2 ^ n)) (n + 1)
+    close_in near = record { each = λ s h. at s h (ℕ_discrete s n); others = past }
+      where
+        at : (s : ℕ) → s < n + 1 → Dec (s ≡ n) → bit (bit_or mask (2 ^ n)) s ≡ leb gap (get_or rests s 0)
+        at s h (yes z) = some_or mask (2 ^ n) s (inr (ap (bit (2 ^ n)) z ∙ bit_pow n)) ∙ sym (le-leb gap rest near) ∙ here s z
+        at s h (no z) =
+            same_test _ _
+            (λ t. sym (c.each s (omega arith)) ∙ ⊎_elim (λ p. p) (λ p. absurd (z (pow_bit n s p))) (or_some mask (2 ^ n) s t))
+            (λ t. some_or mask (2 ^ n) s (inl (c.each s (omega arith) ∙ t)))
 
-      -- or it is not
-      same : (s : ℕ) → leb gap rest ≡ false → s < n + 1 → Dec (s ≡ n) → bit mask s ≡ leb gap (get_or rests s 0)
-      same s far h (yes z) = c.others s (omega arith) ∙ sym (ap (λ (i : ℕ). leb gap (get_or rests i 0)) z ∙ ap (leb gap) (sym e) ∙ far)
-      same s far h (no z) = c.each s (omega arith)
+        past : (s : ℕ) → n + 1 ≤ s → bit (bit_or mask (2 ^ n)) s ≡ false
+        past s h = decide (bit (bit_or mask (2 ^ n)) s) (λ t. ⊎_elim (λ p. apart (sym (c.others s (omega arith)) ∙ p)) (λ p. let z = pow_bit n s p in omega arith) (or_some mask (2 ^ n) s t))
 
-      by : (t : Bool) → leb gap rest ≡ t → CloseAt rests gap mask' (n + 1)
-      by true near = let z : mask' ≡ bit_or mask (2 ^ n) = m ∙ rw near in rw z (record { each = λ s h. at s near h (ℕ_discrete s n); others = past })
-      by false far = let z : mask' ≡ mask = m ∙ rw far in rw z (record { each = λ s h. same s far h (ℕ_discrete s n); others = λ s h. c.others s (omega arith) })
+    -- or it is not
+    pub close_out : rest < gap → CloseAt rests gap mask (n + 1)
+    close_out far = record { each = λ s h. at s h (ℕ_discrete s n); others = λ s h. c.others s (omega arith) }
+      where
+        at : (s : ℕ) → s < n + 1 → Dec (s ≡ n) → bit mask s ≡ leb gap (get_or rests s 0)
+        at s h (yes z) = c.others s (omega arith) ∙ sym (lt-leb gap rest far) ∙ here s z
+        at s h (no z) = c.each s (omega arith)
 
   -- ticks with difference e − 22 are too close exactly when they are at most the rest apart
   gap_close : (r e gap : ℕ) → gap ≡ e - 22 + (22 - e) → leb gap r ≡ too_close r (sub_ℕ e 22)
@@ -206,40 +200,12 @@ module _ (rests : List ℕ) where
   pub plain_widens : (job : Job) (places : List ℕ) (w : ℕ) → w ≡ 0 → Longest rests w 16 → (Longest rests 0 16 → Widens rests job 7 (7 + job.ticks) places) → Widens rests job (7 - w) (7 + job.ticks + w) places
   plain_widens job places w e l wide = let r = wide (rw e at l) in record { each = λ x h g. r.each x (omega arith) (omega arith) }
 
--- the masks so far stand in their places
-pub record Copied (masks places : List ℕ) (a : ℕ) : Type 0 where
-  pub long : length places ≡ 30
-  pub each : (c : ℕ) → c < a → get_or places (c + 7) 0 ≡ get_or masks c 0
-
-pub copied_none : (masks : List ℕ) → Copied masks (replicate 30 0) 0
-copied_none masks = record { long = length-replicate {A = ℕ} 30 0; each = λ c h. absurd (omega arith) }
-
-pub copied_more : (masks places : List ℕ) (a : ℕ) → Copied masks places a → a < 16 → Copied masks (set places (a + 7) (get_or masks a 0)) (a + 1)
-copied_more masks places a c h = record { long = simp length-set c.long; each = λ d g. at d g (ℕ_discrete d a) }
-  where
-    at : (d : ℕ) → d < a + 1 → Dec (d ≡ a) → get_or (set places (a + 7) (get_or masks a 0)) (d + 7) 0 ≡ get_or masks d 0
-    at d g (yes z) = rw z (get_or-set_same places (a + 7) (get_or masks a 0) 0 (omega (arith, c.long)))
-    at d g (no z) = get_or-set_other places (a + 7) (d + 7) (get_or masks a 0) 0 (omega arith) ∙ c.each d (omega arith)
+-- masks that stand from place 7 on
+pub copied : (xs ys : List ℕ) (a : ℕ) → a < length xs → get_or (0 ∷ 0 ∷ 0 ∷ 0 ∷ 0 ∷ 0 ∷ 0 ∷ (xs ++ ys)) (a + 7) 0 ≡ get_or xs a 0
+copied xs ys a h = let e : a + 7 ≡ suc (suc (suc (suc (suc (suc (suc a)))))) = omega arith in rw e (get_or-append xs ys 0 a h)
 
 -- whatever rests the masks of differences are of, the places from low on and before x are widened
 pub record Widening (close : List ℕ) (job : Job) (low : ℕ) (places : List ℕ) (x : ℕ) : Type 0 where
   pub long : length places ≡ 30
   pub begun : low ≤ x
   pub wide : (rests : List ℕ) → Closes rests close → Widens rests job low x places
-
-module _ (close : List ℕ) (job : Job) (low : ℕ) where
-  pub widening_none : (x : ℕ) → x ≡ low → Widening close job low (replicate 30 0) x
-  widening_none x e = record { long = length-replicate {A = ℕ} 30 0; begun = omega arith; wide = λ rests c. record { each = λ y h g. absurd (omega arith) } }
-
-  pub widening_more : (places : List ℕ) (x p mask : ℕ) → Widening close job low places x → x < 30 → p ≡ job.ticks → ((rests : List ℕ) → Closes rests close → Near rests job.masks p x mask) → Widening close job low (set places x mask) (x + 1)
-  widening_more places x p mask w h e n =
-      record { long = simp length-set w.long; begun = omega (arith, w.begun); wide = λ rests c. record { each = λ y g k. at rests c y g k (ℕ_discrete y x) } }
-    where
-      at : (rests : List ℕ) → Closes rests close → (y : ℕ) → low ≤ y → y < x + 1 → Dec (y ≡ x) → Near rests job.masks job.ticks y (get_or (set places x mask) y 0)
-      at rests c y g k (yes z) = rw (z, get_or-set_same places x mask 0 (omega (arith, w.long)), ← e) (n rests c)
-      at rests c y g k (no z) = rw (get_or-set_other places x y mask 0 z) ((w.wide rests c).each y g (omega arith))
-
--- after the last place, whose number rests on the result of a call
-pub widening_end : (close : List ℕ) (job : Job) (low w p : ℕ) (places : List ℕ) (x : ℕ) → Widening close (table_of p job.masks) low places x → 7 + p + w ≤ x → p ≡ job.ticks
-    → (rests : List ℕ) → Closes rests close → Widens rests job low (7 + job.ticks + w) places
-widening_end close job low w p places x g h e rests c = record { each = λ y k m. rw e at ((g.wide rests c).each y k (omega arith)) }

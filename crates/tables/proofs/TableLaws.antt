@@ -1,11 +1,10 @@
 -- Two tables meet at a distance exactly when one of the places that lie over a tick shares a station with it.
-use Prim.Native.Nat.{ℕ, ◌+◌, ◌-◌, ◌≤◌, ◌<◌, min, max}
+use Prim.Native.Nat.{ℕ, ◌+◌, ◌-◌, ◌≤◌, ◌<◌, min}
 use mathlib.Core.Path.{◌≡◌, sym, ap, ◌∙◌}
 use mathlib.Core.Logic.{◌⊎◌, ⊎_elim}
 use mathlib.Core.Bool.{Bool, true, false, ◌&&◌}
 use mathlib.Core.List.{List}
 use native.Mathlib.Omega.{arith}
-use native.Mathlib.Decide.{ℕ_discrete}
 use lib.ListN.{get_or}
 use lib.IntN.{ℤ, sub_ℕ}
 use Rattle.model.specs.declared.Job.{Job}
@@ -65,19 +64,6 @@ module _ (low end : ℕ) (places : List ℕ) (second : Job) (k : ℕ) where
     pub from : low ≤ x
     pub over : k - 15 ≤ x
     pub none : (y : ℕ) → low ≤ y → k - 15 ≤ y → y < x → meet_at y ≡ false
-
-  -- before the first turn
-  pub clear_none : (x : ℕ) → x ≡ max low (k - 15) → Clear x
-  clear_none x e = record { from = omega arith; over = omega arith; none = λ y h g l. absurd (omega arith) }
-
-  -- place x does not share a station either
-  pub clear_more : (x : ℕ) (r : Bool) → Clear x → r ≡ meet_at x → r ≡ false → Clear (x + 1)
-  clear_more x r c e f =
-      record { from = omega (arith, c.from); over = omega (arith, c.over); none = λ y h g l. go y h g (ℕ_discrete y x) (λ q. omega arith) }
-    where
-      go : (y : ℕ) → low ≤ y → k - 15 ≤ y → Dec (y ≡ x) → ((y ≡ x → ⊥) → y < x) → meet_at y ≡ false
-      go y h g (yes q) below = rw q (sym e ∙ f)
-      go y h g (no q) below = c.none y h g (below q)
 
   -- place x shares a station: the tables meet
   pub tables_met : (x last : ℕ) (r : Bool) → last ≡ min end (second.ticks + k - 15) → Clear x → x < last → r ≡ meet_at x → r ≡ true → true ≡ tables_meet low end places second (sub_ℕ k 15)

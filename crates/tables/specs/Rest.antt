@@ -1,8 +1,7 @@
 -- A job's table widened by the rests. Its tick a stands at place a + 7, and station s stands at every place that is too close, for the rest of s, to a tick in which
 -- the job holds it.
-use Rattle.std.specs.Prelude.{ℕ, ◌+◌, ◌^◌, ◌≤◌, ◌<◌, ◌≡◌, true, false, List, get_or, leb, if◌then◌else◌}
+use Rattle.std.specs.Prelude.{ℕ, ◌+◌, ◌≤◌, ◌<◌, ◌≡◌, true, false, List, get_or, leb}
 use Rattle.std.proofs.Math.IntN.{sub_ℕ}
-use Rattle.std.specs.Int.Bits.{bit_or}
 use Rattle.model.specs.declared.Job.{Job}
 use Rattle.model.specs.Limits.{stations, most_rest}
 use Rattle.model.specs.Batch.{bit}
@@ -16,10 +15,6 @@ pub record Resting (rests : List ℕ) : Type 0 where
 pub record Longest (rests : List ℕ) (w n : ℕ) : Type 0 where
   pub most : w ≤ most_rest
   pub each : (s : ℕ) → s < n → get_or rests s 0 ≤ w
-
--- a mask with station s added where ticks `gap` apart are too close for its rest
-unfoldable pub close_mask : ℕ → ℕ → ℕ → ℕ → ℕ
-close_mask mask s rest gap = if leb gap rest then bit_or mask (2 ^ s) else mask
 
 -- of the first n stations a mask holds those for which ticks `gap` apart are too close, and no other station
 pub record CloseAt (rests : List ℕ) (gap mask n : ℕ) : Type 0 where

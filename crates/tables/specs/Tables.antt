@@ -10,10 +10,6 @@ use Rattle.model.specs.Batch.{bit}
 unfoldable pub shares : ℕ → ℕ → Bool
 shares m m' = any (λ s. bit m s && bit m' s) (count 0 stations)
 
--- a table of p ticks
-abbrev pub table_of : ℕ → List ℕ → Job
-table_of p masks = record { ticks = p; masks = masks }
-
 -- some station is in place x of the first table, from low on and before end, and in mask c of the second with x − c = d
 unfoldable pub tables_meet : ℕ → ℕ → List ℕ → Job → ℤ → Bool
 tables_meet low end places second d =

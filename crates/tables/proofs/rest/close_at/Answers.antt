@@ -1,14 +1,13 @@
 -- `rest::close_at` meets its contract. The invariant: of the first s stations the mask holds those for which the ticks are too close.
-use mathlib.Core.Path.{◌≡◌, refl}
-use borrow.Author.Rules.{rules}
-use Rattle.tables.proofs.RestLaws.{close_none, close_more}
+use Rattle.tables.proofs.RestLaws.{shifted, close_none, close_in, close_out}
 use Rattle.tables.proofs.rest.close_at.Goals as goal
+use Rattle.tables.proofs.rest.close_at.Goals.{then-gap-from, else-gap-from}
 
 pub loop-s-init : goal.loop-s-init
-loop-s-init c = (search rules, close_none _ _)
+loop-s-init c = close_none _ _
 
 pub loop-s-preserved : goal.loop-s-preserved
-loop-s-preserved c = (search rules, close_more _ _ _ _ _ _ c.loop-s.invariant.1 refl c.with_station-mask.ensures)
-
-pub returns : goal.returns
-returns c = let e : c.loop-s.s ≡ 16 = search rules in rw e at c.loop-s.invariant.1
+loop-s-preserved c = let i = c.loop-s.invariant in elim c.if-gap-from.branch [
+  | then-gap-from w ↦ rw (w.mask-is, shifted c.loop-s.s c.loop-s-test.true) (close_in _ _ _ _ _ i c.from.ensures w.if-gap-from.true)
+  | else-gap-from w ↦ rw w.mask-is (close_out _ _ _ _ _ i c.from.ensures w.if-gap-from.false)
+]
