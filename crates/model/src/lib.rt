@@ -1,10 +1,10 @@
-// The types that every room shares, small numbers as indices, and the record that an accepted opening starts from. What stands in the record
+// The types that every room shares, and the record that an accepted opening starts from. What stands in the record
 // of the C boundary too has C's layout.
 #![tactic(auto)]
 
 mod refusal;
 
-ghost use Rattle.std.specs.Prelude.{◌≡◌, ◌<◌};
+ghost use Rattle.std.specs.Prelude.{◌≡◌};
 ghost use Rattle.model.specs.Search.{fresh_search};
 
 pub use refusal::Refusal;
@@ -149,18 +149,4 @@ pub fn fresh(batch: Batch) -> Search
         total: 0,
         ended: false,
     }
-}
-
-// A small number as an index.
-pub fn wide(x: u8) -> usize
-    ensures { (result ≡ x) × (result < 256) }
-{
-    x as usize
-}
-
-// A two-byte number as an index.
-pub fn wide16(x: u16) -> usize
-    ensures { (result ≡ x) × (result < 65536) }
-{
-    x as usize
 }
