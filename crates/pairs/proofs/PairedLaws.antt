@@ -1,19 +1,19 @@
 -- The codes by pairs, as find_pairs reads them: each code adds its bit to the last pair, or begins a pair.
 use Prim.Native.Nat.{ℕ, suc, ◌+◌, ◌-◌, ◌*◌, ◌/◌, ◌%◌, ◌^◌, ◌≤◌, ◌<◌}
-use mathlib.Core.Path.{◌≡◌, refl, sym, ◌∙◌}
+use mathlib.Core.Path.{◌≡◌, refl, sym}
 use mathlib.Core.Logic.{◌≢◌}
 use mathlib.Core.List.{List}
 use native.Mathlib.Numerals.{add-one}
 use native.Mathlib.Nat.{pow-succ', div_self}
 use native.Mathlib.Omega.{arith}
 use native.Mathlib.Decide.{ℕ_discrete, dec_lt}
-use lib.ListN.{length, get_or, set, replicate, length-set, length-replicate}
+use lib.ListN.{get_or, set, replicate, length-set, length-replicate}
 use lib.Seq.{get_or-set_same, get_or-set_other}
 use lib.Bits.{bit_or, or_step, or_shr}
 use lib.Pow.{pow_pos, shl_exact}
 use Rattle.clashes.specs.First.{Named}
 use Rattle.pairs.specs.declared.pairs.Pairs.{Pairs}
-use Rattle.pairs.specs.Pairs.{Room, In, OfJobs, Paired}
+use Rattle.pairs.specs.Pairs.{Room, In, OfJobs}
 
 -- ---- bits
 
@@ -36,117 +36,66 @@ bit_set d h =
 pub room_new : (n : ℕ) → Room (record { pair = replicate 276 0; held = replicate 276 0; end = replicate 276 0; count = n })
 room_new n = let e = length-replicate {A = ℕ} 276 0 in record { of_pair = e; of_held = e; of_end = e }
 
--- the last pair, its bits and the k codes so far stand in the last place; before the first pair, last is no pair
-pub record Pairing (codes : List ℕ) (p : Pairs) (last bits k : ℕ) : Type 0 where
+-- the k codes so far are those before the last pair's end
+pub record Pairing (codes : List ℕ) (p : Pairs) (k : ℕ) : Type 0 where
   pub room : Room p
   pub of_jobs : OfJobs p
   pub within : (q : ℕ) → q < p.count → get_or p.end q 0 ≤ k
   pub each : (q c : ℕ) → q < p.count → c < get_or p.end q 0 → (r : ℕ) × ((r ≤ q) × In codes p c r)
-  pub none : p.count ≡ 0 → (k ≡ 0) × (last ≡ 65535)
-  pub pair_last : 0 < p.count → get_or p.pair (p.count - 1) 0 ≡ last
-  pub held_last : 0 < p.count → get_or p.held (p.count - 1) 0 ≡ bits
+  pub none : p.count ≡ 0 → k ≡ 0
   pub end_last : 0 < p.count → get_or p.end (p.count - 1) 0 ≡ k
 
 -- no pair yet
-pub pairing_none : (codes : List ℕ) (p : Pairs) → Room p → Pairing codes (record p { count = 0 }) 65535 0 0
+pub pairing_none : (codes : List ℕ) (p : Pairs) → Room p → Pairing codes (record p { count = 0 }) 0
 pairing_none codes p r =
     record {
       room = record { of_pair = r.of_pair; of_held = r.of_held; of_end = r.of_end };
       of_jobs = record { few = omega arith; first = λ q h. absurd (omega arith); second = λ q h. absurd (omega arith) };
       within = λ q h. absurd (omega arith);
       each = λ q c h g. absurd (omega arith);
-      none = λ e. (refl, refl);
-      pair_last = λ h. absurd (omega arith);
-      held_last = λ h. absurd (omega arith);
+      none = λ e. refl;
       end_last = λ h. absurd (omega arith);
     }
 
--- code k is of the last pair, which has its place: its bits so far and the k codes are not stored yet
-pub record Opened (codes : List ℕ) (p : Pairs) (last bits k : ℕ) : Type 0 where
+-- code k is of the last pair, which has its place: its bit is not set yet, and it is not counted
+pub record Opened (codes : List ℕ) (p : Pairs) (k : ℕ) : Type 0 where
   pub room : Room p
   pub of_jobs : OfJobs p
   pub some : 0 < p.count
-  pub pair_last : get_or p.pair (p.count - 1) 0 ≡ last
-  pub of_last : get_or codes k 0 / 64 ≡ last
+  pub of_last : get_or codes k 0 / 64 ≡ get_or p.pair (p.count - 1) 0
   pub within : (q : ℕ) → q < p.count - 1 → get_or p.end q 0 ≤ k
   pub each : (q c : ℕ) → q < p.count - 1 → c < get_or p.end q 0 → (r : ℕ) × ((r ≤ q) × In codes p c r)
-  pub before : (c : ℕ) → c < k → (r : ℕ) × ((r ≤ p.count - 1) × In codes (record p { held = set p.held (p.count - 1) bits }) c r)
+  pub before : (c : ℕ) → c < k → (r : ℕ) × ((r ≤ p.count - 1) × In codes p c r)
 
--- the bits of another pair may change, and those of a pair may grow; neither the ends nor the count matter
-in_other : (codes : List ℕ) (p : Pairs) (c r q y : ℕ) → r ≢ q → In codes p c r → In codes (record p { held = set p.held q y }) c r
-in_other codes p c r q y ne i = record { same = i.same; near = i.near; has = rw (get_or-set_other p.held q r y 0 ne) i.has }
-
-in_more : (codes : List ℕ) (p : Pairs) (c r q y z : ℕ) → q < length p.held → In codes (record p { held = set p.held q y }) c r → In codes (record p { held = set p.held q (bit_or y z) }) c r
-in_more codes p c r q y z h i = go (ℕ_discrete r q)
-  where
-    go : Dec (r ≡ q) → In codes (record p { held = set p.held q (bit_or y z) }) c r
-    go (no ne) =
-        record { same = i.same; near = i.near; has = rw (get_or-set_other p.held q r (bit_or y z) 0 ne, ← get_or-set_other p.held q r y 0 ne) i.has }
-    go (yes e) =
-        record {
-          same = i.same;
-          near = i.near;
-          has =
-              rw (e, get_or-set_same p.held q (bit_or y z) 0 h)
-              (or_left y z (get_or codes c 0 % 64 + 1) (rw (e, get_or-set_same p.held q y 0 h) at i.has));
-        }
-
-in_ends : (codes : List ℕ) (p : Pairs) (end : List ℕ) (n c r : ℕ) → In codes p c r → In codes (record p { end = end; count = n }) c r
-in_ends codes p end n c r i = record { same = i.same; near = i.near; has = i.has }
-
-module _ (codes : List ℕ) (p : Pairs) (last bits k : ℕ) (g : Pairing codes p last bits k) where
+module _ (codes : List ℕ) (p : Pairs) (k : ℕ) (g : Pairing codes p k) where
   -- it is of the last pair already
-  pub open_same : {p' : Pairs} {last' bits' : ℕ} → Named (get_or codes k 0) → get_or codes k 0 / 64 ≡ last
-      → p' ≡ p → last' ≡ last → bits' ≡ bits → Opened codes p' last' bits' k
-  open_same j e n l b =
-      let h : 0 < p.count = go (dec_lt 0 p.count) in
-      rw (n, l, b)
+  pub open_same : {p' : Pairs} → 0 < p.count → get_or p.pair (p.count - 1) 0 ≡ get_or codes k 0 / 64 → p' ≡ p → Opened codes p' k
+  open_same h e n =
+      rw n
       (record {
         room = g.room;
         of_jobs = g.of_jobs;
         some = h;
-        pair_last = g.pair_last h;
-        of_last = e;
+        of_last = sym e;
         within = λ q lt. g.within q (omega arith);
         each = λ q c lt. g.each q c (omega arith);
-        before = λ c lt. kept c h (g.each (p.count - 1) c (omega arith) (omega (arith, g.end_last h)));
+        before = λ c lt. g.each (p.count - 1) c (omega arith) (omega (arith, g.end_last h));
       })
-    where
-      go : Dec (0 < p.count) → 0 < p.count
-      go (yes h) = h
-      go (no h) = absurd (let z = g.none (omega arith) in omega (arith, z.1, j.first))
 
-      kept : (c : ℕ) → 0 < p.count → (r : ℕ) × ((r ≤ p.count - 1) × In codes p c r)
-          → (r : ℕ) × ((r ≤ p.count - 1) × In codes (record p { held = set p.held (p.count - 1) bits }) c r)
-      kept c h (r, (le, i)) = (r, (le, side (ℕ_discrete r (p.count - 1))))
-        where
-          side : Dec (r ≡ p.count - 1) → In codes (record p { held = set p.held (p.count - 1) bits }) c r
-          side (no ne) = in_other codes p c r (p.count - 1) bits ne i
-          side (yes e) =
-              record {
-                same = i.same;
-                near = i.near;
-                has =
-                    rw (e, get_or-set_same p.held (p.count - 1) bits 0 (omega (arith, g.room.of_held, g.of_jobs.few)), ← g.held_last h, ← e)
-                    i.has;
-              }
-
-  -- the arrays with the pair of code k in the next place
+  -- the arrays with the pair of code k in the next place, which has no bit
   abbrev more : Pairs
-  more = record p { pair = set p.pair p.count (get_or codes k 0 / 64); count = p.count + 1 }
+  more = record p { pair = set p.pair p.count (get_or codes k 0 / 64); held = set p.held p.count 0; count = p.count + 1 }
 
   -- it is of a pair of its own
-  pub open_new : {p' : Pairs} {last' bits' : ℕ} → Named (get_or codes k 0) → p.count ≢ 276
-      → p' ≡ more → last' ≡ get_or codes k 0 / 64 → bits' ≡ 0 → Opened codes p' last' bits' k
-  open_new j ne n l b =
-      rw (n, l, b)
+  pub open_new : {p' : Pairs} → Named (get_or codes k 0) → p.count ≢ 276 → p' ≡ more → Opened codes p' k
+  open_new j ne n =
+      rw n
       (let e : p.count + 1 - 1 ≡ p.count = omega arith in
       record {
-        room = record { of_pair = simp length-set g.room.of_pair; of_held = g.room.of_held; of_end = g.room.of_end };
+        room = record { of_pair = simp length-set g.room.of_pair; of_held = simp length-set g.room.of_held; of_end = g.room.of_end };
         of_jobs = record { few = omega (arith, g.of_jobs.few); first = λ q h. (jobs q h).0; second = λ q h. (jobs q h).1 };
         some = omega arith;
-        pair_last = rw e new;
-        of_last = refl;
+        of_last = rw e (sym new);
         within = λ q lt. g.within q (omega arith);
         each = λ q c lt m. older q (omega arith) c (g.each q c (omega arith) m);
         before = λ c lt. rw e (earlier c lt (dec_lt 0 p.count));
@@ -166,26 +115,27 @@ module _ (codes : List ℕ) (p : Pairs) (last bits k : ℕ) (g : Pairing codes p
           side (no e) = rw (old q (omega arith)) (g.of_jobs.first q (omega arith), g.of_jobs.second q (omega arith))
 
       older : (q : ℕ) → q < p.count → (c : ℕ) → (r : ℕ) × ((r ≤ q) × In codes p c r) → (r : ℕ) × ((r ≤ q) × In codes more c r)
-      older q h c (r, (le, i)) = (r, (le, record { same = rw (old r (omega arith)) i.same; near = i.near; has = i.has }))
+      older q h c (r, (le, i)) =
+          (r, (le, record { same = rw (old r (omega arith)) i.same; near = i.near; has = rw (get_or-set_other p.held p.count r 0 0 (omega arith)) i.has }))
 
-      earlier : (c : ℕ) → c < k → Dec (0 < p.count) → (r : ℕ) × ((r ≤ p.count) × In codes (record more { held = set p.held p.count 0 }) c r)
-      earlier c lt (no h) = absurd (let z = g.none (omega arith) in omega (arith, z.0))
+      earlier : (c : ℕ) → c < k → Dec (0 < p.count) → (r : ℕ) × ((r ≤ p.count) × In codes more c r)
+      earlier c lt (no h) = absurd (let z = g.none (omega arith) in omega arith)
       earlier c lt (yes h) =
           let o = older (p.count - 1) (omega arith) c (g.each (p.count - 1) c (omega arith) (omega (arith, g.end_last h))) in
-          (o.0, (omega (arith, o.1.0), in_other codes more c o.0 p.count 0 (omega (arith, o.1.0)) o.1.1))
+          (o.0, (omega (arith, o.1.0), o.1.1))
 
--- its bit is stored, and it is counted
-module _ (codes : List ℕ) (p : Pairs) (last bits k z : ℕ) where
+-- its bit is set, and it is counted
+module _ (codes : List ℕ) (p : Pairs) (k z : ℕ) where
   abbrev at : ℕ
   at = p.count - 1
 
-  abbrev held' : Pairs
-  held' = record p { held = set p.held at (bit_or bits z) }
+  abbrev bits : ℕ
+  bits = bit_or (get_or p.held at 0) z
 
   abbrev counted : Pairs
-  counted = record p { held = set p.held at (bit_or bits z); end = set p.end at (k + 1) }
+  counted = record p { held = set p.held at bits; end = set p.end at (k + 1) }
 
-  pub stored : Opened codes p last bits k → get_or codes k 0 % 64 < 45 → z ≡ 2 * 2 ^ (get_or codes k 0 % 64) % 2 ^ 64 → Pairing codes counted last (bit_or bits z) (k + 1)
+  pub stored : Opened codes p k → get_or codes k 0 % 64 < 45 → z ≡ 2 * 2 ^ (get_or codes k 0 % 64) % 2 ^ 64 → Pairing codes counted (k + 1)
   stored o near e =
       record {
         room =
@@ -198,13 +148,11 @@ module _ (codes : List ℕ) (p : Pairs) (last bits k z : ℕ) where
         within = λ q h. within q h (ℕ_discrete q at);
         each = λ q c h m. each q c h m (ℕ_discrete q at);
         none = λ n. absurd (omega (arith, o.some));
-        pair_last = λ h. o.pair_last;
-        held_last = λ h. get_or-set_same p.held at (bit_or bits z) 0 place;
         end_last = λ h. last_end;
       }
     where
-      place : at < length p.held
-      place = omega (arith, o.room.of_held, o.of_jobs.few, o.some)
+      last_bits : get_or counted.held at 0 ≡ bits
+      last_bits = get_or-set_same p.held at bits 0 (omega (arith, o.room.of_held, o.of_jobs.few, o.some))
 
       last_end : get_or counted.end at 0 ≡ k + 1
       last_end = get_or-set_same p.end at (k + 1) 0 (omega (arith, o.room.of_end, o.of_jobs.few, o.some))
@@ -213,42 +161,26 @@ module _ (codes : List ℕ) (p : Pairs) (last bits k z : ℕ) where
       within q h (yes e) = rw (e, last_end) (omega arith)
       within q h (no ne) = rw (get_or-set_other p.end at q (k + 1) 0 ne) (omega (arith, o.within q (omega arith)))
 
-      this : In codes held' k at
+      this : In codes counted k at
       this =
           record {
-            same = o.of_last ∙ sym o.pair_last;
+            same = o.of_last;
             near = near;
-            has =
-                rw (get_or-set_same p.held at (bit_or bits z) 0 place)
-                (or_right bits z (get_or codes k 0 % 64 + 1) (rw e (bit_set (get_or codes k 0 % 64) near)));
+            has = rw last_bits (or_right (get_or p.held at 0) z (get_or codes k 0 % 64 + 1) (rw e (bit_set (get_or codes k 0 % 64) near)));
           }
 
-      up_to : (c : ℕ) → Dec (c ≡ k) → c < k + 1 → (r : ℕ) × ((r ≤ at) × In codes held' c r)
-      up_to c (yes e) h = (at, (omega arith, rw e this))
-      up_to c (no ne) h =
-          let b = o.before c (omega arith) in
-          (b.0, (b.1.0, in_more codes p c b.0 at bits z place b.1.1))
+      -- the bits of the other pairs stay, and the last pair's grow
+      kept : (q c : ℕ) → (r : ℕ) × ((r ≤ q) × In codes p c r) → (r : ℕ) × ((r ≤ q) × In codes counted c r)
+      kept q c (r, (le, i)) = (r, (le, record { same = i.same; near = i.near; has = side (ℕ_discrete r at) }))
+        where
+          side : Dec (r ≡ at) → get_or counted.held r 0 / 2 ^ (get_or codes c 0 % 64 + 1) % 2 ≡ 1
+          side (no ne) = rw (get_or-set_other p.held at r bits 0 ne) i.has
+          side (yes e) = rw (e, last_bits) (or_left (get_or p.held at 0) z (get_or codes c 0 % 64 + 1) (rw e at i.has))
 
-      kept : (q c : ℕ) → (r : ℕ) × ((r ≤ q) × In codes held' c r) → (r : ℕ) × ((r ≤ q) × In codes counted c r)
-      kept q c (r, (le, i)) = (r, (le, in_ends codes held' counted.end p.count c r i))
+      up_to : (c : ℕ) → Dec (c ≡ k) → c < k + 1 → (r : ℕ) × ((r ≤ at) × In codes counted c r)
+      up_to c (yes e) h = (at, (omega arith, rw e this))
+      up_to c (no ne) h = kept at c (o.before c (omega arith))
 
       each : (q c : ℕ) → q < p.count → c < get_or counted.end q 0 → Dec (q ≡ at) → (r : ℕ) × ((r ≤ q) × In codes counted c r)
-      each q c h m (yes e) = rw e (kept at c (up_to c (ℕ_discrete c k) (rw (e, last_end) at m)))
-      each q c h m (no ne) =
-          let b = o.each q c (omega arith) (rw (get_or-set_other p.end at q (k + 1) 0 ne) at m) in
-          kept q c (b.0, (b.1.0, in_other codes p c b.0 at (bit_or bits z) (omega (arith, b.1.0)) b.1.1))
-
--- no code is left, or no place
-pub paired_end : (codes : List ℕ) (p : Pairs) (last bits k n : ℕ) → Pairing codes p last bits k → k ≤ n → (p.count < 276 → n ≤ k)
-    → Paired codes p n
-paired_end codes p last bits k n g le all =
-    record {
-      of_jobs = g.of_jobs;
-      within = λ q h. omega (arith, g.within q h);
-      each = g.each;
-      all = λ h c m. go c (omega (arith, all h)) (dec_lt 0 p.count);
-    }
-  where
-    go : (c : ℕ) → c < k → Dec (0 < p.count) → (q : ℕ) × ((q < p.count) × (c < get_or p.end q 0))
-    go c m (no h) = absurd (let z = g.none (omega arith) in omega (arith, z.0))
-    go c m (yes h) = (p.count - 1, (omega arith, omega (arith, g.end_last h)))
+      each q c h m (yes e) = rw e (up_to c (ℕ_discrete c k) (rw (e, last_end) at m))
+      each q c h m (no ne) = kept q c (o.each q c (omega arith) (rw (get_or-set_other p.end at q (k + 1) 0 ne) at m))

@@ -30,22 +30,19 @@ pub fn find_pairs(codes: &[u16; 1024], count: usize, pairs: &mut Pairs)
     ensures { Paired codes.now pairs.new count }
 {
     pairs.count = 0;
-    let mut last: u16 = 65535;
-    let mut bits: u64 = 0;
     for k in 0..count {
         let code = codes[k];
-        if code / 64 != last {
+        let jobs = code / 64;
+        if pairs.count == 0 || pairs.pair[pairs.count - 1] != jobs {
             if pairs.count == 276 {
                 return;
             }
-            last = code / 64;
-            pairs.pair[pairs.count] = last;
-            bits = 0;
+            pairs.pair[pairs.count] = jobs;
+            pairs.held[pairs.count] = 0;
             pairs.count += 1;
         }
-        bits |= 2u64 << (code % 64);
         let at = pairs.count - 1;
-        pairs.held[at] = bits;
+        pairs.held[at] |= 2u64 << (code % 64);
         pairs.end[at] = (k + 1) as u16;
     }
 }
