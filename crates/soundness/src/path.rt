@@ -59,9 +59,12 @@ pub fn read_path(path: &[Turn; 1024], count: usize) -> Option<Route>
     Some(Route { depth: 1024, turns })
 }
 
-// No turn stands in these places. `&`, and not `all`, which stops at the first turn: without a way out it is compiled to whole vectors.
+// No turn stands in these places. A fold, and not `all`, which stops at the first turn: without a way out it is compiled to whole vectors, since `copied`
+// loads each place in one piece.
 pub fn rest_empty(rest: &[Turn]) -> bool
     ensures { result ≡ rest_empty rest.now }
 {
-    rest.iter().fold(true, |empty, t| empty & is_empty(*t))
+    rest.iter()
+        .copied()
+        .fold(true, |empty, t| empty & is_empty(t))
 }
