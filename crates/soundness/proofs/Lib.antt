@@ -1,5 +1,4 @@
 -- Laws about the definitions that the contracts cite, each in the code's shape. Each file depends only on those above it.
-pub mod BoolLaws
 pub mod BestLaws
 pub mod TurnLaws
 pub mod MarkLaws

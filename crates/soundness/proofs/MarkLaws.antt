@@ -2,13 +2,14 @@
 use Prim.Native.Nat.{ℕ, ◌≤◌, ◌<◌}
 use mathlib.Core.Path.{◌≡◌, refl, ap, sym, ◌∙◌}
 use mathlib.Core.Bool.{Bool, true, false, ◌&&◌, ◌||◌, not}
+use Rattle.std.proofs.Math.Bool.{or-true, or-false}
 use mathlib.Core.List.{List, [], ◌∷◌, ◌++◌}
 use native.Mathlib.Decide.{ℕ_discrete}
 use native.Mathlib.Omega.{arith}
 use lib.ListN.{length, get_or, set, replicate}
 use lib.Seq.{get_or-set_same, get_or-set_other}
 use lib.Dec.{leb, ltb, eqb}
-use borrow.Author.Tests.{lt-ltb, le-ltb, le-leb, lt-leb, ltb-true, leb-true, eq-eqb, ne_eqb}
+use borrow.Author.Tests.{ltb-true, leb-true, eq-eqb, ne_eqb}
 use Rattle.model.specs.declared.Turn.{Turn}
 use Rattle.model.specs.Common.{any}
 use Rattle.model.proofs.BoolLaws.{both}
@@ -16,23 +17,7 @@ use Rattle.model.proofs.SeqLaws.{blanks_at}
 use Rattle.model.proofs.BackLaws.{numbers}
 use Rattle.model.proofs.GoodLaws.{numbers_append}
 use Rattle.soundness.specs.Path.{turn_new}
-use Rattle.soundness.proofs.BoolLaws.{or_true, or_false}
 use Rattle.soundness.proofs.TurnLaws.{any_snoc, may_follow}
-
--- ---- one turn, as the code tests it; c is its clash
-
-module _ (D : ℕ) (marks : List Bool) (t : Turn) (c : ℕ) (e : c ≡ t.clash) where
-  pub turn_over : D ≤ c → false ≡ turn_new D marks t
-  unfolding turn_new
-  turn_over h = rw (le-ltb t.clash D (omega arith))
-
-  pub turn_side : c < D → 1 < t.side → leb t.side 1 ≡ turn_new D marks t
-  unfolding turn_new
-  turn_side h g = rw (lt-ltb t.clash D (omega arith), lt-leb t.side 1 g)
-
-  pub turn_mark : c < D → t.side ≤ 1 → not (get_or marks c false) ≡ turn_new D marks t
-  unfolding turn_new
-  turn_mark h g = rw (lt-ltb t.clash D (omega arith), le-leb t.side 1 g, e)
 
 -- a turn that is tested has a clash below D, and side 0 or 1
 pub new_clash : (D : ℕ) (marks : List Bool) (t : Turn) → turn_new D marks t ≡ true → t.clash < D
@@ -73,8 +58,8 @@ one_marked marks ts t l h m c g =
     go (yes e) =
         ap (λ (x : ℕ). get_or (set marks t.clash true) x false) e
         ∙ get_or-set_same marks t.clash true false (omega arith)
-        ∙ sym (ap (λ (x : Bool). any (eqb c) (numbers ts) || x) (eq-eqb c t.clash e) ∙ or_true (any (eqb c) (numbers ts)))
+        ∙ sym (ap (λ (x : Bool). any (eqb c) (numbers ts) || x) (eq-eqb c t.clash e) ∙ or-true (any (eqb c) (numbers ts)))
     go (no e) =
         get_or-set_other marks t.clash c true false e
         ∙ m c g
-        ∙ sym (ap (λ (x : Bool). any (eqb c) (numbers ts) || x) (ne_eqb c t.clash e) ∙ or_false (any (eqb c) (numbers ts)))
+        ∙ sym (ap (λ (x : Bool). any (eqb c) (numbers ts) || x) (ne_eqb c t.clash e) ∙ or-false (any (eqb c) (numbers ts)))
