@@ -2,3 +2,4 @@
 pub mod Windows
 pub mod Rests
 pub mod Further
+pub mod Kind

@@ -2,6 +2,7 @@
 #![tactic(auto)]
 
 mod further;
+mod kinds;
 mod rests;
 mod windows;
 
