@@ -136,29 +136,15 @@ module _ (b : Batch) (within : Within b) (text : List ℕ) where
 
 -- ---- the file
 
-module _ (file : List ℕ) (o : Opened) (is : o ≡ opened file) where
-  -- the file is refused
-  pub file_refused : (text : List ℕ) (k : ℕ) → o.answer ≡ Closed k → Refused k ≡ judged file text
-  unfolding opened opened_as judged judged_as judge ◌>>=◌
-  file_refused text k e = go (open_file file) refl (sym (ap (λ (x : Opened). x.answer) is) ∙ e)
-    where
-      go : (x : Outcome Batch) → open_file file ≡ x → (opened_as x).answer ≡ Closed k → Refused k ≡ judged_as (open_file file >>= λ b. judge_text b text)
-      go (refuse j) h z = let y : j ≡ k = cc in rw (h, y)
-      go (accept b) h z = let y : ◌≡◌ {A = ℕ} 0 1 = cc in absurd (omega arith)
+-- it is refused
+pub file_refused : (file text : List ℕ) (k : ℕ) → open_file file ≡ refuse k → refuse k ≡ judge file text
+unfolding judge ◌>>=◌
+file_refused file text k e = rw e
 
-  module _ (yes : o.answer ≡ Accepted) where
-    -- the file's batch
-    file_batch : open_file file ≡ accept o.search.batch
-    unfolding opened opened_as fresh_search search_of
-    file_batch = go (open_file file) refl (sym (ap (λ (x : Opened). x.answer) is) ∙ yes)
-      where
-        go : (x : Outcome Batch) → open_file file ≡ x → (opened_as x).answer ≡ Accepted → open_file file ≡ accept o.search.batch
-        go (refuse j) h z = let y : ◌≡◌ {A = ℕ} 0 1 = cc in absurd (omega arith)
-        go (accept b) h z = h ∙ ap accept (sym (ap (λ (x : Opened). x.search.batch) (is ∙ ap opened_as h)))
+module _ (file : List ℕ) (b : Batch) (is : open_file file ≡ accept b) where
+  pub file_fits : Within b × (few_clashes b ≡ true)
+  file_fits = (((open_format file b).0 is).within, ((open_read file b).0 is).1)
 
-    pub file_fits : Within o.search.batch × (few_clashes o.search.batch ≡ true)
-    file_fits = (((open_format file o.search.batch).0 file_batch).within, ((open_read file o.search.batch).0 file_batch).1)
-
-    pub file_judged : (text : List ℕ) → judged_as (judge_text o.search.batch text) ≡ judged file text
-    unfolding judged judge ◌>>=◌
-    file_judged text = rw file_batch
+  pub file_judged : (text : List ℕ) → judge_text b text ≡ judge file text
+  unfolding judge ◌>>=◌
+  file_judged text = rw is

@@ -32,7 +32,7 @@ use Rattle.clashes.specs.List.{list_of}
 use Rattle.clashes.specs.First.{Known, Unmet, met_of, first_code}
 use Rattle.clashes.proofs.FirstLaws.{unmet_none, first_agree}
 use Rattle.clashes.proofs.ListedLaws.{list_fits, list_known, first_listed}
-use Rattle.weights.specs.declared.delays.Delays.{Delays}
+use Rattle.weights.specs.declared.Weights.{Weights}
 use Rattle.weights.specs.Code.{Limited, coded}
 use Rattle.weights.specs.Delays.{delays_read}
 use Rattle.weights.specs.Holds.{Holds}
@@ -57,8 +57,8 @@ all_map f g [] = refl
 all_map f g (x ∷ xs) = ap (λ (rest : Bool). elim (f (g x)) [ true ↦ rest | false ↦ false ]) (all_map f g xs)
 
 -- the test of delay k, by the arrays
-unfoldable pub kept_test : List ℕ → List ℕ → List ℕ → List ℕ → ℕ → Bool
-kept_test us from to code k = leb (get_or us (get_or from k 0) 0 + 1000) (get_or us (get_or to k 0) 0 + get_or code k 0)
+unfoldable pub kept_test : List ℕ → Weights 128 → ℕ → Bool
+kept_test us d k = leb (get_or us (get_or d.from k 0) 0 + 1000) (get_or us (get_or d.to k 0) 0 + get_or d.code k 0)
 
 -- a test of every number below m, of which k is asked: t is the answer
 module _ (f : ℕ → Bool) (k m : ℕ) (r : Bool) (left : all_from f k m ≡ r) (h : k < m) (t : Bool) (told : t ≡ f k) where
@@ -68,8 +68,8 @@ module _ (f : ℕ → Bool) (k m : ℕ) (r : Bool) (left : all_from f k m ≡ r)
   pub test_not : not t ≡ true → false ≡ r
   test_not e = all_failed f k m r left h (fails told e)
 
-module _ (b : Batch) (w : Within b) (d : Delays) (e : d ≡ delays_read b) where
-  held : Holds b.n (delays_of b) d.from d.to d.code
+module _ (b : Batch) (w : Within b) (d : Weights 128) (e : d ≡ delays_read b) where
+  held : Holds b.n (delays_of b) d
   held = let s = within_sound b w in rw e (holds_read b s.few s.jobs s.weights)
 
   in_list : (k : ℕ) → k < b.m → k < length (delays_of b)
@@ -81,7 +81,7 @@ module _ (b : Batch) (w : Within b) (d : Delays) (e : d ≡ delays_read b) where
       let f = held.fits k (in_list k h) in
       (omega (arith, held.from k (in_list k h), f.from, w.jobs.1), omega (arith, held.to k (in_list k h), f.to, w.jobs.1))
 
-  kept_at : (us : List ℕ) (k : ℕ) → k < b.m → kept_test us d.from d.to d.code k ≡ keeps us (delay_of b k)
+  kept_at : (us : List ℕ) (k : ℕ) → k < b.m → kept_test us d k ≡ keeps us (delay_of b k)
   unfolding kept_test keeps start
   kept_at us k h =
       let l = in_list k h in
@@ -89,10 +89,10 @@ module _ (b : Batch) (w : Within b) (d : Delays) (e : d ≡ delays_read b) where
       rw (held.from k l, held.to k l, held.code k l, e) (kept_code _ _ _ (subst (λ (q : Delay). Limited q.weight) e (held.fits k l).weight))
 
   -- what the loop has tested is what the definition asks
-  pub kept_all : (us : List ℕ) (m : ℕ) → m ≡ b.m → all_from (kept_test us d.from d.to d.code) 0 m ≡ all (keeps us) (delays_of b)
+  pub kept_all : (us : List ℕ) (m : ℕ) → m ≡ b.m → all_from (kept_test us d) 0 m ≡ all (keeps us) (delays_of b)
   unfolding delays_of
   kept_all us m p =
-      all_start _ m ∙ ap (λ (n : ℕ). all (kept_test us d.from d.to d.code) (count 0 n)) p
+      all_start _ m ∙ ap (λ (n : ℕ). all (kept_test us d) (count 0 n)) p
       ∙ sym (all_map (λ t. t) _ (count 0 b.m)) ∙ ap (all (λ t. t)) (listed_cong _ _ b.m (kept_at us))
       ∙ all_map (λ t. t) (λ k. keeps us (delay_of b k)) (count 0 b.m) ∙ sym (all_map (keeps us) (delay_of b) (count 0 b.m))
 

@@ -2,18 +2,18 @@
 ghost use Rattle.std.specs.Prelude.{◌≡◌, true};
 ghost use Rattle.model.specs.Format.{Within};
 ghost use Rattle.model.specs.Open.{few_clashes};
-ghost use Rattle.model.specs.Judge.{judge_text, judged};
+ghost use Rattle.model.specs.Judge.{judge_text, judge, judged};
 ghost use Rattle.model.specs.Refusal.{told};
 
 use crate::plan::is_right;
 use claims::{read_head, read_lines};
-use model::{Batch, Judgement, Opening, Refusal};
-use opening::open_file;
+use model::{Batch, Judgement, Refusal};
+use opening::open_batch;
 
 // Beside a batch that was opened: 17, 18, 19.
-fn judge_text(batch: Batch, text: &[u8]) -> Result<(), Refusal>
-    requires { Within batch × (few_clashes batch ≡ true) }
-    ensures { told result ≡ judge_text batch text.now }
+fn judge_text(batch: &Batch, text: &[u8]) -> Result<(), Refusal>
+    requires { Within batch.now × (few_clashes batch.now ≡ true) }
+    ensures { told result ≡ judge_text batch.now text.now }
 {
     let head = read_head(text).ok_or(Refusal::PlanText)?;
     let lines = read_lines(text, head.next).ok_or(Refusal::PlanText)?;
@@ -27,14 +27,18 @@ fn judge_text(batch: Batch, text: &[u8]) -> Result<(), Refusal>
 }
 
 // The file is opened, and the text judged beside its batch.
+fn judge(file: &[u8], text: &[u8]) -> Result<(), Refusal>
+    ensures { told result ≡ judge file.now text.now }
+{
+    let batch = open_batch(file)?;
+    judge_text(&batch, text)
+}
+
+// The answer of the call: a refusal by its number.
 pub fn judge_file(file: &[u8], text: &[u8]) -> Judgement
     ensures { result ≡ judged file.now text.now }
 {
-    let opened = open_file(file);
-    if let Opening::Refused(number) = opened.answer {
-        return Judgement::Refused(number);
-    }
-    match judge_text(opened.search.batch, text) {
+    match judge(file, text) {
         Ok(()) => Judgement::Passed,
         Err(refusal) => Judgement::Refused(refusal.number()),
     }

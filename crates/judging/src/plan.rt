@@ -9,7 +9,7 @@ ghost use Rattle.model.specs.Format.{Within};
 ghost use Rattle.model.specs.Open.{few_clashes};
 ghost use Rattle.model.specs.Judge.{keeps, keeps_ends, valid};
 
-use clashes::{first_met, list_clashes};
+use clashes::{Clashes, first_met, list_clashes};
 use model::{Batch, Window};
 use times::stays::stays_of;
 use weights::delays::read_delays;
@@ -25,12 +25,11 @@ fn is_kept(from: u8, to: u8, code: u16, starts: &[u16; 24]) -> bool
 }
 
 // Each delay is kept.
-fn keeps_delays(batch: Batch, starts: &[u16; 24]) -> bool
-    requires { Within batch }
-    ensures { result ≡ all (keeps starts.now) (delays_of batch) }
+fn keeps_delays(batch: &Batch, starts: &[u16; 24]) -> bool
+    requires { Within batch.now }
+    ensures { result ≡ all (keeps starts.now) (delays_of batch.now) }
 {
-    let read = read_delays(batch);
-    let delays = read.delays;
+    let delays = read_delays(*batch).unwrap();
     for k in 0..usize::from(batch.m) {
         if !is_kept(delays.from[k], delays.to[k], delays.code[k], starts) {
             return false;
@@ -47,9 +46,9 @@ fn is_within(window: Window, start: u16) -> bool
 }
 
 // Each start is within its job's ends.
-fn keeps_ends(batch: Batch, starts: &[u16; 24]) -> bool
-    requires { Within batch }
-    ensures { result ≡ keeps_ends batch starts.now }
+fn keeps_ends(batch: &Batch, starts: &[u16; 24]) -> bool
+    requires { Within batch.now }
+    ensures { result ≡ keeps_ends batch.now starts.now }
 {
     for i in 0..usize::from(batch.n) {
         if !is_within(batch.windows[i], starts[i]) {
@@ -60,29 +59,32 @@ fn keeps_ends(batch: Batch, starts: &[u16; 24]) -> bool
 }
 
 // Some clash is met.
-fn meets_clash(batch: Batch, starts: &[u16; 24]) -> bool
-    requires { Within batch × (few_clashes batch ≡ true) }
-    ensures { result ≡ is_some (first_met (clashes batch) starts.now 0) }
+fn meets_clash(batch: &Batch, starts: &[u16; 24]) -> bool
+    requires { Within batch.now × (few_clashes batch.now ≡ true) }
+    ensures { result ≡ is_some (first_met (clashes batch.now) starts.now 0) }
 {
-    let mut codes = [0u16; 1024];
-    let count = list_clashes(batch, &mut codes);
-    first_met(&codes, 0, count, starts).is_some()
+    let mut clashes = Clashes {
+        count: 0,
+        codes: [0; 1024],
+    };
+    list_clashes(batch, &mut clashes);
+    first_met(&clashes.codes, 0, clashes.count, starts).is_some()
 }
 
 // The starts keep every delay and every job's ends, and no two jobs hold one station in one tick.
-fn is_valid(batch: Batch, starts: &[u16; 24]) -> bool
-    requires { Within batch × (few_clashes batch ≡ true) }
-    ensures { result ≡ valid batch starts.now }
+fn is_valid(batch: &Batch, starts: &[u16; 24]) -> bool
+    requires { Within batch.now × (few_clashes batch.now ≡ true) }
+    ensures { result ≡ valid batch.now starts.now }
 {
     keeps_delays(batch, starts) && keeps_ends(batch, starts) && !meets_clash(batch, starts)
 }
 
 // The largest finish.
-fn latency_of(batch: Batch, starts: &[u16; 24]) -> usize
-    requires { Within batch }
-    ensures { result ≡ latency batch starts.now }
+fn latency_of(batch: &Batch, starts: &[u16; 24]) -> usize
+    requires { Within batch.now }
+    ensures { result ≡ latency batch.now starts.now }
 {
-    let stays = stays_of(batch);
+    let stays = stays_of(*batch);
     let mut latest: usize = 0;
     for i in 0..usize::from(batch.n) {
         let finish = usize::from(starts[i]) + usize::from(stays[i]);
@@ -92,9 +94,9 @@ fn latency_of(batch: Batch, starts: &[u16; 24]) -> usize
 }
 
 // The starts are a valid plan, and this is its latency.
-pub fn is_right(batch: Batch, starts: &[u16; 24], claimed: u16) -> bool
-    requires { Within batch × (few_clashes batch ≡ true) }
-    ensures { result ≡ (valid batch starts.now && eqb (latency batch starts.now) claimed) }
+pub fn is_right(batch: &Batch, starts: &[u16; 24], claimed: u16) -> bool
+    requires { Within batch.now × (few_clashes batch.now ≡ true) }
+    ensures { result ≡ (valid batch.now starts.now && eqb (latency batch.now starts.now) claimed) }
 {
     is_valid(batch, starts) && latency_of(batch, starts) == usize::from(claimed)
 }

@@ -1,56 +1,38 @@
--- Opening a file that was read: 9, 10, and the fresh search.
+-- Opening a file that was read: 9 and 10, and the fresh search.
 use Prim.Native.Nat.{ℕ}
-use mathlib.Core.Path.{◌≡◌, ap, sym, ◌∙◌}
-use mathlib.Core.Bool.{Bool, true, false, not}
+use mathlib.Core.Path.{◌≡◌, sym, ◌∙◌}
+use mathlib.Core.Bool.{true, false}
 use mathlib.Core.List.{List}
-use Rattle.model.specs.declared.Search.{Search}
-use Rattle.model.specs.declared.Opening.TheVariants.{Accepted, Refused}
-use Rattle.model.specs.declared.Opened.{Opened}
+use Rattle.model.specs.declared.Batch.{Batch}
 use Rattle.model.specs.Common.{refuse, accept}
-use Rattle.model.specs.Search.{fresh_search}
 use Rattle.model.specs.Format.{Within}
-use Rattle.model.specs.Open.{few_clashes, delays_met, read_file, open_file, opened_as, opened}
-use Rattle.model.proofs.OutcomeLaws.{accepts_bind, accepts_require}
+use Rattle.model.specs.Open.{few_clashes, delays_met, read_file, open_file}
+use Rattle.model.proofs.OutcomeLaws.{accepts_bind, accepts_require, refuses_require}
 use Rattle.model.proofs.LimitLaws.{limits_within}
 use Rattle.model.proofs.FileLaws.{read_limits}
-use Rattle.model.proofs.BoolLaws.{passes, fails}
-use Rattle.frame_read.proofs.Tests.{refuses_require, refuses_bind}
-use Rattle.reading.specs.declared.batch.BatchRead.{BatchRead}
-use Rattle.reading.specs.Read.{batch_told}
-use Rattle.reading.proofs.Told.{batch_refused, batch_accepted}
+use Rattle.frame_read.proofs.Tests.{refuses_bind}
 
--- by what `read_batch` answers
-module _ (file : List ℕ) (r : BatchRead) (read : r ≡ batch_told (read_file file)) where
-  -- the file is not read
-  pub open_refused : (k : ℕ) → r.answer ≡ Refused k → (o : Opened) → o ≡ opened_as (refuse k) → o ≡ opened file
-  unfolding opened open_file
-  open_refused k h o t = t ∙ ap opened_as (sym (refuses_bind _ (batch_refused r (read_file file) k read h)))
+-- the file is not read
+pub open_refused : (file : List ℕ) (k : ℕ) → read_file file ≡ refuse k → refuse k ≡ open_file file
+unfolding open_file
+open_refused file k e = sym (refuses_bind _ e)
 
-  module _ (yes : r.answer ≡ Accepted) where
-    -- the batch that was read
-    is : read_file file ≡ accept r.batch
-    is = batch_accepted r (read_file file) read yes
+module _ (file : List ℕ) (b : Batch) (is : read_file file ≡ accept b) where
+  -- its batch is within the limits
+  pub open_within : Within b
+  open_within = limits_within b (read_limits file b is)
 
-    -- it is within the limits
-    pub open_within : Within r.batch
-    open_within = limits_within r.batch (read_limits file r.batch is)
+  -- 9
+  pub open_many : few_clashes b ≡ false → refuse 9 ≡ open_file file
+  unfolding open_file
+  open_many h = sym (accepts_bind _ is ∙ refuses_require 9 _ h)
 
-    module _ (few : Bool) (clashes : few ≡ few_clashes r.batch) where
-      -- 9
-      pub open_many : not few ≡ true → (o : Opened) → o ≡ opened_as (refuse 9) → o ≡ opened file
-      unfolding opened open_file
-      open_many h o t = t ∙ ap opened_as (sym (accepts_bind _ is ∙ refuses_require 9 _ (fails clashes h)))
+  -- 10
+  pub open_unmet : few_clashes b ≡ true → delays_met b ≡ false → refuse 10 ≡ open_file file
+  unfolding open_file
+  open_unmet few h = sym (accepts_bind _ is ∙ accepts_require 9 _ few ∙ refuses_require 10 _ h)
 
-      module _ (within : not few ≡ false) (met : Bool) (starts : met ≡ delays_met r.batch) where
-        -- 10
-        pub open_unmet : not met ≡ true → (o : Opened) → o ≡ opened_as (refuse 10) → o ≡ opened file
-        unfolding opened open_file
-        open_unmet h o t =
-            t ∙ ap opened_as (sym (accepts_bind _ is ∙ accepts_require 9 _ (passes clashes within) ∙ refuses_require 10 _ (fails starts h)))
-
-        -- the fresh search
-        pub open_fresh : not met ≡ false → (s : Search) → s ≡ fresh_search r.batch → ◌≡◌ {A = Opened} (record { answer = Accepted; search = s }) (opened file)
-        unfolding opened open_file opened_as
-        open_fresh h s t =
-            ap (λ (x : Search). record { answer = Accepted; search = x }) t
-            ∙ ap opened_as (sym (accepts_bind _ is ∙ accepts_require 9 _ (passes clashes within) ∙ accepts_require 10 _ (passes starts h)))
+  -- it opens
+  pub open_all : few_clashes b ≡ true → delays_met b ≡ true → accept b ≡ open_file file
+  unfolding open_file
+  open_all few met = sym (accepts_bind _ is ∙ accepts_require 9 _ few ∙ accepts_require 10 _ met)

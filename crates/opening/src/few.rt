@@ -3,15 +3,18 @@ ghost use Rattle.std.specs.Prelude.{◌≡◌};
 ghost use Rattle.model.specs.Format.{Within};
 ghost use Rattle.model.specs.Open.{few_clashes};
 
-use clashes::list_clashes;
+use clashes::{Clashes, list_clashes};
 use model::Batch;
 
 // D is at most 1,024.
-pub fn few_clashes(batch: Batch) -> bool
-    requires { Within batch }
-    ensures { result ≡ few_clashes batch }
+pub fn few_clashes(batch: &Batch) -> bool
+    requires { Within batch.now }
+    ensures { result ≡ few_clashes batch.now }
 {
-    let mut codes = [0u16; 1024];
-    let count = list_clashes(batch, &mut codes);
-    count <= 1024
+    let mut clashes = Clashes {
+        count: 0,
+        codes: [0; 1024],
+    };
+    list_clashes(batch, &mut clashes);
+    clashes.count <= 1024
 }

@@ -1,40 +1,39 @@
-// Opening a batch file: the fresh search of its batch, or the first refusal.
+// Opening a batch file: its batch, or the first refusal; and then the fresh search of it.
 ghost use Rattle.std.specs.Prelude.{◌≡◌};
-ghost use Rattle.model.specs.Common.{refuse};
-ghost use Rattle.model.specs.Open.{opened, opened_as};
+ghost use Rattle.model.specs.Open.{open_file, opened};
+ghost use Rattle.model.specs.Refusal.{told};
 
 use crate::few::few_clashes;
-use model::{Opened, Opening, fresh};
+use model::{Batch, Opened, Opening, Refusal, fresh};
 use reading::{blank_batch, read_batch};
 use starts::met::delays_met;
 
-// The refusal's number, and the one blank record.
-fn refused(number: u8) -> Opened
-    ensures { result ≡ opened_as (refuse number) }
+// The batch of a file that opens.
+pub fn open_batch(file: &[u8]) -> Result<Batch, Refusal>
+    ensures { told result ≡ open_file file.now }
 {
-    Opened {
-        answer: Opening::Refused(number),
-        search: fresh(blank_batch()),
+    let batch = read_batch(file)?;
+    if !few_clashes(&batch) {
+        return Err(Refusal::Clashes);
     }
+    if !delays_met(batch) {
+        return Err(Refusal::Unmet);
+    }
+    Ok(batch)
 }
 
+// The fresh search of a file that opens; a refusal has its number, and the one blank record.
 pub fn open_file(file: &[u8]) -> Opened
     ensures { result ≡ opened file.now }
 {
-    let read = read_batch(file);
-    let answer = read.answer;
-    if let Opening::Refused(number) = answer {
-        return refused(number);
-    }
-    let batch = read.batch;
-    if !few_clashes(batch) {
-        return refused(9);
-    }
-    if !delays_met(batch) {
-        return refused(10);
-    }
-    Opened {
-        answer: Opening::Accepted,
-        search: fresh(batch),
+    match open_batch(file) {
+        Ok(batch) => Opened {
+            answer: Opening::Accepted,
+            search: fresh(batch),
+        },
+        Err(refusal) => Opened {
+            answer: Opening::Refused(refusal.number()),
+            search: fresh(blank_batch()),
+        },
     }
 }

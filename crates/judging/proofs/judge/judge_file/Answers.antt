@@ -1,20 +1,13 @@
--- `judge::judge_file` opens the file, and judges the text where it is accepted.
-use mathlib.Core.Path.{◌∙◌, ap, sym}
-use Rattle.model.specs.Judge.{judged_as}
+-- `judge::judge_file` answers with the refusal's number.
+use mathlib.Core.Path.{ap}
+use Rattle.model.specs.Judge.{judged_as, judged}
 use Rattle.model.specs.Refusal.{told}
-use Rattle.judging.proofs.AnswerLaws.{file_refused, file_fits, file_judged}
 use Rattle.judging.proofs.judge.judge_file.Goals as goal
 
-pub returns-in-Refused : goal.returns-in-Refused
-returns-in-Refused c = file_refused _ _ c.open_file-opened.ensures _ _ c.in-Refused.is
-
-pub judge_text-requires : goal.judge_text-requires
-judge_text-requires c = file_fits _ _ c.open_file-opened.ensures c.in_default.is
-
 pub returns-in-Ok : goal.returns-in-Ok
-unfolding told judged_as
-returns-in-Ok c = ap judged_as (ap told (sym c.in-Ok.is) ∙ c.judge_text.ensures) ∙ file_judged _ _ c.open_file-opened.ensures c.in_default.is _
+unfolding judged judged_as told
+returns-in-Ok c = ap judged_as c.in-Ok.ensures
 
 pub returns-in-Err : goal.returns-in-Err
-unfolding told judged_as
-returns-in-Err c = rw c.number.ensures (ap judged_as (ap told (sym c.in-Err.is) ∙ c.judge_text.ensures) ∙ file_judged _ _ c.open_file-opened.ensures c.in_default.is _)
+unfolding judged judged_as told
+returns-in-Err c = rw c.number.ensures (ap judged_as c.in-Err.ensures)

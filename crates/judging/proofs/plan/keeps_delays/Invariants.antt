@@ -5,4 +5,4 @@ use Rattle.judging.proofs.PlanLaws.{kept_test}
 use Rattle.judging.proofs.plan.keeps_delays.Given as goal
 
 abbrev pub invariant-loop-k : goal.invariant-loop-k
-invariant-loop-k l = all_from (kept_test l.starts l.delays.from l.delays.to l.delays.code) l.k l.k-end ≡ all_from (kept_test l.starts l.delays.from l.delays.to l.delays.code) 0 l.k-end
+invariant-loop-k l = all_from (kept_test l.starts l.delays) l.k l.k-end ≡ all_from (kept_test l.starts l.delays) 0 l.k-end
