@@ -45,10 +45,10 @@ fn is_within(window: Window, start: u16) -> bool
     window.earliest <= start && start <= window.latest
 }
 
-// Each start is within its job's ends.
-fn keeps_ends(batch: &Batch, starts: &[u16; 24]) -> bool
-    requires { Within batch.now }
-    ensures { result ≡ keeps_ends batch.now starts.now }
+// Each start is within its job's ends. The batch is handed on by value: of one that is lent, the proof does not know how many windows there are.
+fn keeps_ends(batch: Batch, starts: &[u16; 24]) -> bool
+    requires { Within batch }
+    ensures { result ≡ keeps_ends batch starts.now }
 {
     for i in 0..usize::from(batch.n) {
         if !is_within(batch.windows[i], starts[i]) {
@@ -68,7 +68,7 @@ fn meets_clash(batch: &Batch, starts: &[u16; 24]) -> bool
         codes: [0; 1024],
     };
     list_clashes(batch, &mut clashes);
-    first_met(&clashes.codes, 0, clashes.count, starts).is_some()
+    first_met(&clashes, 0, starts).is_some()
 }
 
 // The starts keep every delay and every job's ends, and no two jobs hold one station in one tick.
@@ -76,7 +76,7 @@ fn is_valid(batch: &Batch, starts: &[u16; 24]) -> bool
     requires { Within batch.now × (few_clashes batch.now ≡ true) }
     ensures { result ≡ valid batch.now starts.now }
 {
-    keeps_delays(batch, starts) && keeps_ends(batch, starts) && !meets_clash(batch, starts)
+    keeps_delays(batch, starts) && keeps_ends(*batch, starts) && !meets_clash(batch, starts)
 }
 
 // The largest finish.

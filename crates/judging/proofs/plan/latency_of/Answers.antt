@@ -17,5 +17,5 @@ pub loop-i-preserved : goal.loop-i-preserved
 loop-i-preserved c = rw latency_more (omega (arith, c.loop-i.invariant))
 
 pub returns : goal.returns
-returns c = let whole : c.loop-i.i ≡ c.args.batch.n = omega arith in
+returns c = let whole : c.loop-i.i ≡ c.args.batch.now.n = omega arith in
     rw (whole, c.stays_of-stays.ensures) at c.loop-i.invariant ∙ latency_law _ c.requires.jobs.1 _ _ (λ i h. refl)
