@@ -1,7 +1,7 @@
 -- The answer of judging, by the first of 17, 18 and 19 that holds.
 use Rattle.std.specs.Prelude.{Some, None}
 use Prim.Native.Nat.{ℕ, ◌≤◌}
-use mathlib.Core.Path.{◌≡◌, refl, ap, ap₂, sym, ◌∙◌, subst}
+use mathlib.Core.Path.{◌≡◌, refl, ap, ap₂, sym, ◌∙◌}
 use mathlib.Core.Bool.{Bool, true, false, ◌&&◌, not}
 use mathlib.Core.List.{List, map}
 use native.Mathlib.Omega.{arith}
@@ -10,18 +10,14 @@ use lib.Seq.{take_all}
 use lib.Dec.{eqb}
 use borrow.Author.Tests.{eqb-true, eq-eqb}
 use Rattle.model.specs.declared.Batch.{Batch}
-use Rattle.model.specs.declared.Opened.{Opened}
-use Rattle.model.specs.declared.Opening.TheVariants.{Accepted, Refused as Closed}
-use Rattle.model.specs.declared.Judgement.TheVariants.{Passed, Refused}
 use Rattle.model.specs.Common.{count, pad, Outcome, refuse, accept, ◌>>=◌, require}
 use Rattle.model.specs.Limits.{most_jobs}
 use Rattle.model.specs.Plan.{start, latency}
 use Rattle.model.specs.Starts.{same}
-use Rattle.model.specs.Search.{search_of, fresh_search}
 use Rattle.model.specs.Format.{Within}
-use Rattle.model.specs.Open.{few_clashes, read_one, open_file, opened_as, opened}
-use Rattle.model.specs.Judge.{Claim, jobs_in, starts_in, claim_head, read_lines, read_claim, as17, jobs_right, valid, plan_right, judge_text, judge, judged_as, judged}
-use Rattle.model.proofs.BoolLaws.{apart, both, and, same_test, passes, fails}
+use Rattle.model.specs.Open.{few_clashes, read_one, open_file}
+use Rattle.model.specs.Judge.{Claim, jobs_in, starts_in, claim_head, read_lines, read_claim, as17, jobs_right, valid, plan_right, judge_text, judge}
+use Rattle.model.proofs.BoolLaws.{both, and, same_test, passes, fails}
 use Rattle.model.proofs.ListLaws.{count_length}
 use Rattle.model.proofs.SeqLaws.{pad_at}
 use Rattle.model.proofs.OutcomeLaws.{accepts_bind}

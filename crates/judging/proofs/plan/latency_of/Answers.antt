@@ -1,7 +1,6 @@
 -- `plan::latency_of` meets its contract. The invariant: the largest finish of the first i jobs.
 use mathlib.Core.Path.{◌≡◌, refl, sym, ◌∙◌}
 use native.Mathlib.Omega.{arith}
-use borrow.Author.Rules.{rules}
 use Rattle.opening.proofs.WithinLaws.{within_tabled}
 use Rattle.times.proofs.LatencyLaws.{latency_none, latency_more, latency_law}
 use Rattle.judging.proofs.plan.latency_of.Goals as goal
