@@ -5,7 +5,8 @@ ghost use Rattle.soundness.specs.Path.{turn_code, turn_new, rest_empty, Reads};
 
 use model::{EMPTY, Turn};
 
-// The turns of a path: turn k is 2 * clash + side, for k below depth.
+// The turns of a path: turn k is 2 * clash + side, for k below depth. An array with its depth beside it: there is no heap, and a run goes on to write its
+// turns past depth.
 #[derive(Clone, Copy)]
 pub struct Route {
     pub depth: usize,
