@@ -7,23 +7,25 @@ use weights::Weights;
 
 // A place keeps the smaller of what it has and a weight's code: the larger weight.
 #[tactic(auto, unfolding(crate::specs::Table::put_in, crate::specs::Table::store_in))]
-fn put(table: &mut [[u16; 24]; 24], from: usize, to: usize, code: u16)
+fn put(table: &mut [[u16; 24]; 24], from: u8, to: u8, code: u16)
     requires { (from < 24) × (to < 24) }
     ensures { table.new ≡ put_in table.old from to code }
 {
+    let i = usize::from(from);
+    let j = usize::from(to);
     // No `min`: that stores each time, which is slower where turns of a deep path fall on the same place.
-    if code < table[from][to] {
-        table[from][to] = code;
+    if code < table[i][j] {
+        table[i][j] = code;
     }
 }
 
 // A place gets a weight's code, whatever it has.
 #[tactic(auto, unfolding(crate::specs::Table::store_in))]
-fn store(table: &mut [[u16; 24]; 24], from: usize, to: usize, code: u16)
+fn store(table: &mut [[u16; 24]; 24], from: u8, to: u8, code: u16)
     requires { (from < 24) × (to < 24) }
     ensures { table.new ≡ store_in table.old from to code }
 {
-    table[from][to] = code;
+    table[usize::from(from)][usize::from(to)] = code;
 }
 
 // The first inequalities, as many as counted, each place keeping the largest: a batch's delays, or the turns taken.
@@ -34,12 +36,7 @@ pub fn put_all<const N: usize>(table: &mut [[u16; 24]; 24], count: usize, weight
     ensures { table.new ≡ with_put weights.now table.old count }
 {
     for k in 0..count {
-        put(
-            table,
-            usize::from(weights.from[k]),
-            usize::from(weights.to[k]),
-            weights.code[k],
-        );
+        put(table, weights.from[k], weights.to[k], weights.code[k]);
     }
 }
 
@@ -51,11 +48,6 @@ pub fn store_delays(table: &mut [[u16; 24]; 24], m: usize, delays: &Weights<128>
     ensures { table.new ≡ with_stored delays.now table.old m }
 {
     for k in 0..m {
-        store(
-            table,
-            usize::from(delays.from[k]),
-            usize::from(delays.to[k]),
-            delays.code[k],
-        );
+        store(table, delays.from[k], delays.to[k], delays.code[k]);
     }
 }
