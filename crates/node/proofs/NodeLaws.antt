@@ -7,15 +7,17 @@ use mathlib.Core.Option.{some}
 use native.Mathlib.Omega.{arith}
 use native.Mathlib.Numerals.{add-one}
 use lib.ListN.{get_or, set}
+use Rattle.std.specs.Prelude.{None, Some}
+use Rattle.std.specs.Option.{unwrap_or}
+use Rattle.model.specs.Best.{Best}
 use Rattle.model.specs.Common.{count}
 use Rattle.model.specs.Search.{turned_back, back_to, back}
-use Rattle.clashes.specs.First.{Named}
 use Rattle.weights.specs.declared.Weights.{Weights}
 use Rattle.weights.specs.Turn.{turn_from, turn_to, turn_code}
 use Rattle.node.specs.declared.kit.Kit.{Kit}
 use Rattle.node.specs.declared.kit.Trail.{Trail}
 use Rattle.node.specs.declared.kit.Walk.{Walk}
-use Rattle.node.specs.Walk.{turns_in, Path, Kin, Coded, Steps, back_as, incumbent, place_at}
+use Rattle.node.specs.Walk.{turns_in, Path, Kin, Steps, back_as, bound_of, incumbent, place_at}
 use Rattle.node.specs.Kit.{Returned}
 use Rattle.node.proofs.StepsLaws.{steps_more, steps_less}
 
@@ -71,6 +73,8 @@ module _ (kit : Kit) (t : Trail) (walk : Walk) (s : Steps kit.clashes.codes t.tu
           rows = refl;
         }
 
--- the turn that was set to side 1 is on a clash whose code names jobs
-pub returned_named : (codes turns₀ turns : List ℕ) (depth last c : ℕ) → Coded codes turns₀ depth → Kin turns₀ depth turns (last + 1) → c ≡ get_or turns last 0 / 2 → Named (get_or codes c 0)
-returned_named codes turns₀ turns depth last c g k e = rw (e ∙ k.clash last (omega arith)) (g.named last (omega (arith, k.less)))
+-- the bound of best
+pub bound_is : (best : Best) → unwrap_or best 43017 ≡ bound_of best
+unfolding bound_of
+bound_is None = refl
+bound_is (Some k) = refl

@@ -13,7 +13,6 @@ use Rattle.model.specs.declared.Delay.{Delay}
 use Rattle.model.specs.declared.Turn.{Turn}
 use Rattle.model.specs.Best.{Best}
 use Rattle.std.specs.Prelude.{None, Some}
-use Rattle.std.specs.Option.{unwrap_or}
 use Rattle.model.specs.Common.{pad}
 use Rattle.model.specs.Batch.{earliest_starts, latest_starts}
 use Rattle.model.specs.Plan.{latency}
@@ -49,12 +48,6 @@ use Rattle.node.specs.Kit.{Works, Least}
 use Rattle.node.proofs.PathLaws.{turns_length}
 use Rattle.node.proofs.BeginLaws.{Begins, begins}
 use Rattle.node.proofs.WorksLaws.{passes, good_turns, counts, bound_small, held, turn_stored, turns_held}
-
--- the bound of best
-pub bound_is : (best : Best) → unwrap_or best 43017 ≡ bound_of best
-unfolding bound_of
-bound_is None = refl
-bound_is (Some k) = refl
 
 -- starts and their latency, as a node has them
 abbrev low : Reached → Reach

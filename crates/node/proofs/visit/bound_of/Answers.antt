@@ -1,6 +1,6 @@
 -- `visit::bound_of` meets its contract, by the cases of best.
 use mathlib.Core.Path.{◌∙◌}
-use Rattle.node.proofs.ReachLaws.{bound_is}
+use Rattle.node.proofs.NodeLaws.{bound_is}
 use Rattle.node.proofs.visit.bound_of.Goals as goal
 
 pub returns : goal.returns
