@@ -1,15 +1,9 @@
-// The planner's calls, made on the present record. The answer goes into the line of output.
+// The planner's calls, made on the present record: the record after it, or none where the line names no call. The answer goes into the line of output.
 use crate::answers::{put_answer, put_judgement, put_opening, put_written};
-use crate::digits::{blank_from, read_file};
-use crate::text::{put, put_colon, put_list, put_text};
-use model::{Search, Written};
-
-// The present record after a line, and the length of the output.
-#[derive(Clone, Copy)]
-pub struct Done {
-    pub search: Search,
-    pub length: usize,
-}
+use crate::digits::read_file;
+use crate::text::Output;
+use model::Search;
+use std::fmt::Write;
 
 // What the places of a starts list hold before a run.
 const PLACES: [u16; 32] = [
@@ -18,126 +12,58 @@ const PLACES: [u16; 32] = [
     60026, 60027, 60028, 60029, 60030, 60031,
 ];
 
-// A line that names no call.
-pub fn unknown(search: Search, out: &mut [u8]) -> Done {
-    let length = put(out, 0, b'?');
-    Done {
-        search: search,
-        length: length,
-    }
-}
-
 // Opens the file of a line.
-pub fn open(search: Search, line: &[u8], out: &mut [u8]) -> Done {
-    let mut file = [0u8; 65536];
-    let count = read_file(line, &mut file);
-    opened(search, &file, count, out)
+pub fn open(line: &[u8], out: &mut Output) -> Option<Search> {
+    let file = read_file(line)?;
+    let opened = planner::open(file.as_bytes());
+    put_opening(out, opened.answer);
+    Some(opened.search)
 }
 
-// Opens the first bytes of a buffer.
-fn opened(search: Search, file: &[u8], count: usize, out: &mut [u8]) -> Done {
-    if file.len() < count {
-        return unknown(search, out);
-    }
-    let opened = planner::open(&file[0..count]);
-    let answer = opened.answer;
-    let next = opened.search;
-    let length = put_opening(out, answer);
-    Done {
-        search: next,
-        length: length,
-    }
-}
-
-// Runs with a starts list of a length.
-pub fn run(search: Search, budget: u32, length: usize, out: &mut [u8]) -> Done {
+// Runs with a starts list of a length, and puts the list behind the answer.
+pub fn run(search: Search, budget: u32, length: usize, out: &mut Output) -> Option<Search> {
     if 32 < length {
-        return unknown(search, out);
+        return None;
     }
     let mut places = PLACES;
-    run_into(search, budget, &mut places[0..length], out)
+    let ran = planner::run(search, budget, &mut places[..length]);
+    put_answer(out, ran.answer);
+    let _ = write!(out, " :");
+    put_list(out, &places[..length]);
+    Some(ran.search)
 }
 
-// Runs, and puts the list behind the answer.
-fn run_into(search: Search, budget: u32, places: &mut [u16], out: &mut [u8]) -> Done {
-    let ran = planner::run(search, budget, places);
-    let answer = ran.answer;
-    let next = ran.search;
-    let at = put_answer(out, answer);
-    let colon = put_colon(out, at);
-    let length = put_list(out, colon, places);
-    Done {
-        search: next,
-        length: length,
+// The places of a list, each after a blank.
+pub fn put_list(out: &mut Output, list: &[u16]) {
+    for place in list {
+        let _ = write!(out, " {place}");
     }
 }
 
-// Writes the plan or the batch, by the letter, into a buffer of a size.
-pub fn write(search: Search, letter: u8, size: usize, out: &mut [u8]) -> Done {
+// Writes the plan or the batch, by the letter, into a buffer of a size, and puts the buffer behind the answer.
+pub fn write(search: Search, letter: u8, size: usize, out: &mut Output) -> Option<Search> {
     if 4096 < size {
-        return unknown(search, out);
+        return None;
     }
-    let mut buffer = [46u8; 4096];
-    let length = write_into(search, letter, &mut buffer[0..size], out);
-    Done {
-        search: search,
-        length: length,
-    }
-}
-
-// Writes, and puts the buffer behind the answer.
-fn write_into(search: Search, letter: u8, buffer: &mut [u8], out: &mut [u8]) -> usize {
-    let answer = written(search, letter, buffer);
-    let at = put_written(out, letter, answer);
-    let colon = put_colon(out, at);
-    let blank = put(out, colon, b' ');
-    put_text(out, blank, buffer)
-}
-
-// Writes by the letter.
-fn written(search: Search, letter: u8, buffer: &mut [u8]) -> Written {
-    if letter == b'P' {
-        planner::write_plan(search, buffer)
-    } else {
-        planner::write_batch(search, buffer)
-    }
+    let mut buffer = [b'.'; 4096];
+    let answer = match letter {
+        b'P' => planner::write_plan(search, &mut buffer[..size]),
+        _ => planner::write_batch(search, &mut buffer[..size]),
+    };
+    put_written(out, letter, answer);
+    let _ = write!(out, " : ");
+    out.put_shown(&buffer[..size]);
+    Some(search)
 }
 
 // Judges the second file of a line, a plan text, beside the first. The byte before its blank stands where a letter would.
-pub fn judge(search: Search, line: &[u8], out: &mut [u8]) -> Done {
-    let blank = blank_from(line, 2);
-    if line.len() <= blank {
-        return unknown(search, out);
+pub fn judge(search: Search, line: &[u8], out: &mut Output) -> Option<Search> {
+    if line.len() < 2 {
+        return None;
     }
-    if blank < 2 {
-        return unknown(search, out);
-    }
-    let mut file = [0u8; 65536];
-    let mut text = [0u8; 65536];
-    let count = read_file(&line[0..blank], &mut file);
-    let size = read_file(&line[blank - 1..], &mut text);
-    judged(search, &file, count, &text, size, out)
-}
-
-// Judges the first bytes of a buffer beside those of another.
-fn judged(
-    search: Search,
-    file: &[u8],
-    count: usize,
-    text: &[u8],
-    size: usize,
-    out: &mut [u8],
-) -> Done {
-    if file.len() < count {
-        return unknown(search, out);
-    }
-    if text.len() < size {
-        return unknown(search, out);
-    }
-    let answer = planner::judge(&file[0..count], &text[0..size]);
-    let length = put_judgement(out, answer);
-    Done {
-        search: search,
-        length: length,
-    }
+    let blank = 2 + line[2..].iter().position(|byte| *byte == b' ')?;
+    let file = read_file(&line[..blank])?;
+    let text = read_file(&line[blank - 1..])?;
+    put_judgement(out, planner::judge(file.as_bytes(), text.as_bytes()));
+    Some(search)
 }

@@ -26,21 +26,17 @@ fn has_arguments(rt: &impl Env) -> bool {
 // The text for what standard input has.
 fn plan_input(rt: &(impl Input + Print + Eprint)) {
     let mut file = [0u8; 65536];
-    let got = input::read_all(&mut rt.reader(), &mut file);
-    if got.failed {
-        let _ = eprintln!(rt; "plan: standard input cannot be read");
-        return;
+    match input::read_all(&mut rt.reader(), &mut file) {
+        Ok(filled) => print(rt, &file[..filled]),
+        Err(_) => {
+            let _ = eprintln!(rt; "plan: standard input cannot be read");
+        }
     }
-    print(rt, &file, got.filled);
 }
 
-// The text for the first bytes of a buffer.
-fn print(rt: &(impl Print + Eprint), file: &[u8], filled: usize) {
-    if file.len() < filled {
-        return;
-    }
+// The text for a batch file.
+fn print(rt: &(impl Print + Eprint), batch: &[u8]) {
     let mut text = [0u8; 256];
-    let batch = &file[..filled];
     let length = text::plan_text(batch, &mut text);
     if !write_text(rt, &text, length) {
         let _ = eprintln!(rt; "plan: standard output cannot be written");

@@ -22,8 +22,7 @@ fn plan_lines(search: Search, text: &mut [u8]) -> usize
     requires { 235 ≤ length text.old }
     ensures { (result, text.new) ≡ at_front (printed (plan_text search)) text.old }
 {
-    let written = planner::write_plan(search, text);
-    match written {
+    match planner::write_plan(search, text) {
         Written::Bytes(length) => length,
         Written::Refused(number) => refusal(text, number),
     }
@@ -43,17 +42,14 @@ fn searched(fresh: Search, text: &mut [u8]) -> usize
     ensures { (result, text.new) ≡ at_front (printed (planned 101 fresh)) text.old }
 {
     let mut search = fresh;
-    let mut runs: usize = 0;
-    while runs < 101 {
+    for _ in 0..101u32 {
         let ran = run_once(search);
         search = ran.search;
-        let answer = ran.answer;
-        match answer {
+        match ran.answer {
             Answer::Spent(_) => {}
             Answer::Refused(number) => return refusal(text, number),
             Answer::Plan(_, _) | Answer::NoPlan(_) => return plan_lines(search, text),
         }
-        runs += 1;
     }
     refusal(text, 14)
 }
@@ -64,10 +60,8 @@ pub fn plan_text(file: &[u8], text: &mut [u8]) -> usize
     ensures { (result, text.new) ≡ at_front (text_for file.now) text.old }
 {
     let opened = planner::open(file);
-    let search = opened.search;
-    let answer = opened.answer;
-    match answer {
-        Opening::Accepted => searched(search, text),
+    match opened.answer {
+        Opening::Accepted => searched(opened.search, text),
         Opening::Refused(number) => refusal(text, number),
     }
 }

@@ -4,8 +4,8 @@ ghost use Rattle.model.specs.Text.{plan_text, batch_text};
 ghost use Rattle.planner_c.specs.Records.{search_in};
 ghost use Rattle.planner_c.specs.Calls.{record_opened, opened_record, record_after, ran_record, written_text};
 
-use crate::records::{Record, record_of, search_in};
-use crate::replies::{Reply, Text, number_of, reply_of, text_of};
+use crate::records::Record;
+use crate::replies::{Reply, Text, number_of};
 use model::{Answer, Opening, Search};
 
 // What opening yields: 0 or the refusal, and the record.
@@ -26,7 +26,7 @@ pub struct Stepped {
 fn record_opened(state: Record, answer: Opening, search: Search) -> Record
     ensures { result ≡ record_opened state answer search }
 {
-    let fresh = record_of(search);
+    let fresh = Record::from(search);
     match answer {
         Opening::Accepted => fresh,
         Opening::Refused(_) => state,
@@ -38,13 +38,9 @@ pub fn open_record(file: &[u8], state: Record) -> Started
     ensures { (result.number, result.state) ≡ opened_record state file.now }
 {
     let opened = planner::open(file);
-    let answer = opened.answer;
-    let search = opened.search;
-    let number = number_of(answer);
-    let after = record_opened(state, answer, search);
     Started {
-        number: number,
-        state: after,
+        number: number_of(opened.answer),
+        state: record_opened(state, opened.answer, opened.search),
     }
 }
 
@@ -53,7 +49,7 @@ pub fn open_record(file: &[u8], state: Record) -> Started
 fn record_after(state: Record, answer: Answer, search: Search) -> Record
     ensures { result ≡ record_after state answer search }
 {
-    let next = record_of(search);
+    let next = Record::from(search);
     match answer {
         Answer::Spent(_) => next,
         Answer::Plan(_, _) => next,
@@ -66,15 +62,11 @@ fn record_after(state: Record, answer: Answer, search: Search) -> Record
 pub fn run_record(state: Record, budget: u32, starts: &mut [u16]) -> Stepped
     ensures { ((result.reply, result.state), starts.new) ≡ ran_record state budget starts.old }
 {
-    let search = search_in(state);
+    let search = Search::from(state);
     let ran = planner::run(search, budget, starts);
-    let answer = ran.answer;
-    let next = ran.search;
-    let reply = reply_of(answer);
-    let after = record_after(state, answer, next);
     Stepped {
-        reply: reply,
-        state: after,
+        reply: Reply::from(ran.answer),
+        state: record_after(state, ran.answer, ran.search),
     }
 }
 
@@ -82,14 +74,14 @@ pub fn run_record(state: Record, budget: u32, starts: &mut [u16]) -> Stepped
 pub fn plan_text(state: Record, buffer: &mut [u8]) -> Text
     ensures { (result, buffer.new) ≡ written_text (plan_text (search_in state)) buffer.old }
 {
-    let search = search_in(state);
-    text_of(planner::write_plan(search, buffer))
+    let search = Search::from(state);
+    Text::from(planner::write_plan(search, buffer))
 }
 
 // The file of a record's batch.
 pub fn batch_text(state: Record, buffer: &mut [u8]) -> Text
     ensures { (result, buffer.new) ≡ written_text (batch_text (search_in state)) buffer.old }
 {
-    let search = search_in(state);
-    text_of(planner::write_batch(search, buffer))
+    let search = Search::from(state);
+    Text::from(planner::write_batch(search, buffer))
 }

@@ -1,6 +1,6 @@
 // The record as C holds it: numbers alone, so that any bytes are one.
 ghost use Rattle.std.specs.Prelude.{◌≡◌};
-ghost use Rattle.planner_c.specs.Records.{best_in, found_of, latency_of, flag_of, search_in, record_of};
+ghost use Rattle.planner_c.specs.Records.{best_in, search_in, record_of};
 
 use model::{Batch, Search, Turn};
 
@@ -27,70 +27,41 @@ fn best_in(found: u8, latency: u16) -> Option<u16>
     Some(latency)
 }
 
-// Whether there is a best.
-fn found_of(best: Option<u16>) -> u8
-    ensures { result ≡ found_of best }
-{
-    match best {
-        None => 0,
-        Some(_) => 1,
-    }
-}
-
-// Its latency, 0 without one.
-fn latency_of(best: Option<u16>) -> u16
-    ensures { result ≡ latency_of best }
-{
-    match best {
-        None => 0,
-        Some(latency) => latency,
-    }
-}
-
-// 1 for yes, 0 for no.
-fn flag_of(yes: bool) -> u8
-    ensures { result ≡ flag_of yes }
-{
-    if yes { 1 } else { 0 }
-}
-
 // The search that a record stands for.
-#[inline(never)]
-pub fn search_in(state: Record) -> Search
-    ensures { result ≡ search_in state }
-{
-    let batch = state.batch;
-    let path = state.path;
-    let starts = state.starts;
-    let best = best_in(state.found, state.latency);
-    Search {
-        batch: batch,
-        path: path,
-        best: best,
-        starts: starts,
-        total: state.total,
-        ended: state.ended != 0,
+impl From<Record> for Search {
+    ghost from_gives = { λ state search. search ≡ search_in state };
+
+    #[inline(never)]
+    #[tactic(auto, unfolding(crate::specs::Records::search_in))]
+    fn from(state: Record) -> Search {
+        let batch = state.batch;
+        let path = state.path;
+        let starts = state.starts;
+        Search {
+            batch,
+            path,
+            best: best_in(state.found, state.latency),
+            starts,
+            total: state.total,
+            ended: state.ended != 0,
+        }
     }
 }
 
 // The record of a search.
-pub fn record_of(search: Search) -> Record
-    ensures { result ≡ record_of search }
-{
-    let batch = search.batch;
-    let path = search.path;
-    let starts = search.starts;
-    let best = search.best;
-    let latency = latency_of(best);
-    let found = found_of(best);
-    let ended = flag_of(search.ended);
-    Record {
-        total: search.total,
-        latency: latency,
-        found: found,
-        ended: ended,
-        starts: starts,
-        batch: batch,
-        path: path,
+impl From<Search> for Record {
+    ghost from_gives = { λ search state. state ≡ record_of search };
+
+    #[tactic(auto, unfolding(crate::specs::Records::record_of))]
+    fn from(search: Search) -> Record {
+        Record {
+            total: search.total,
+            latency: search.best.unwrap_or(0),
+            found: u8::from(search.best.is_some()),
+            ended: u8::from(search.ended),
+            starts: search.starts,
+            batch: search.batch,
+            path: search.path,
+        }
     }
 }

@@ -22,7 +22,8 @@ pub struct Text {
     pub refusal: u8,
 }
 
-// 0 where the file is opened, else the refusal.
+// 0 where the file is opened, else the refusal. (No `From`: neither type is of this crate. The same holds of judging.)
+#[tactic(auto, unfolding(crate::specs::Replies::number_of))]
 pub fn number_of(answer: Opening) -> u8
     ensures { result ≡ number_of answer }
 {
@@ -32,55 +33,58 @@ pub fn number_of(answer: Opening) -> u8
     }
 }
 
-// The reply of a run's answer.
-pub fn reply_of(answer: Answer) -> Reply
-    ensures { result ≡ reply_of answer }
-{
-    match answer {
-        Answer::Spent(total) => Reply {
-            kind: 0,
-            refusal: 0,
-            latency: 0,
-            total: total,
-        },
-        Answer::Plan(latency, total) => Reply {
-            kind: 1,
-            refusal: 0,
-            latency: latency,
-            total: total,
-        },
-        Answer::NoPlan(total) => Reply {
-            kind: 2,
-            refusal: 0,
-            latency: 0,
-            total: total,
-        },
-        Answer::Refused(number) => Reply {
-            kind: 3,
-            refusal: number,
-            latency: 0,
-            total: 0,
-        },
+impl From<Answer> for Reply {
+    ghost from_gives = { λ answer reply. reply ≡ reply_of answer };
+
+    #[tactic(auto, unfolding(crate::specs::Replies::reply_of))]
+    fn from(answer: Answer) -> Reply {
+        match answer {
+            Answer::Spent(total) => Reply {
+                kind: 0,
+                refusal: 0,
+                latency: 0,
+                total,
+            },
+            Answer::Plan(latency, total) => Reply {
+                kind: 1,
+                refusal: 0,
+                latency,
+                total,
+            },
+            Answer::NoPlan(total) => Reply {
+                kind: 2,
+                refusal: 0,
+                latency: 0,
+                total,
+            },
+            Answer::Refused(refusal) => Reply {
+                kind: 3,
+                refusal,
+                latency: 0,
+                total: 0,
+            },
+        }
     }
 }
 
 // The text's length, or the refusal.
-pub fn text_of(answer: Written) -> Text
-    ensures { result ≡ text_of answer }
-{
-    match answer {
-        Written::Bytes(length) => Text {
-            length: length,
-            refusal: 0,
-        },
-        Written::Refused(refusal) => Text {
-            length: 0,
-            refusal: refusal,
-        },
+impl From<Written> for Text {
+    ghost from_gives = { λ answer text. text ≡ text_of answer };
+
+    #[tactic(auto, unfolding(crate::specs::Replies::text_of))]
+    fn from(answer: Written) -> Text {
+        match answer {
+            Written::Bytes(length) => Text { length, refusal: 0 },
+            Written::Refused(number) => Text {
+                length: 0,
+                refusal: number,
+            },
+        }
     }
 }
 
 // 0 where the plan text passes, else the refusal.
+#[tactic(auto, unfolding(crate::specs::Replies::judge_number))]
 pub fn judge_number(answer: Judgement) -> u8
     ensures { result ≡ judge_number answer }
 {

@@ -3,4 +3,4 @@ use Rattle.planner_c.proofs.CallLaws.{record_opened_lem}
 use Rattle.planner_c.proofs.calls.open_record.Goals as goal
 
 pub returns : goal.returns
-returns c = record_opened_lem _ _ _ _ _ c.open-opened.ensures c.number_of-number.ensures c.record_opened-after.ensures
+returns c = record_opened_lem _ _ _ _ _ c.open-opened.ensures c.number_of.ensures c.record_opened.ensures

@@ -4,15 +4,15 @@ use Rattle.planner_c.proofs.calls.record_after.Goals as goal
 
 pub returns-in-Spent : goal.returns-in-Spent
 unfolding record_after
-returns-in-Spent c = rw c.in-Spent.is c.record_of-next.ensures
+returns-in-Spent c = rw c.in-Spent.is c.from-next.ensures
 
 pub returns-in-Plan : goal.returns-in-Plan
 unfolding record_after
-returns-in-Plan c = rw c.in-Plan.is c.record_of-next.ensures
+returns-in-Plan c = rw c.in-Plan.is c.from-next.ensures
 
 pub returns-in-NoPlan : goal.returns-in-NoPlan
 unfolding record_after
-returns-in-NoPlan c = rw c.in-NoPlan.is c.record_of-next.ensures
+returns-in-NoPlan c = rw c.in-NoPlan.is c.from-next.ensures
 
 pub returns-in-Refused : goal.returns-in-Refused
 unfolding record_after

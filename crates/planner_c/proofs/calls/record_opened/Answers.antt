@@ -4,7 +4,7 @@ use Rattle.planner_c.proofs.calls.record_opened.Goals as goal
 
 pub returns-in-Accepted : goal.returns-in-Accepted
 unfolding record_opened
-returns-in-Accepted c = rw c.in-Accepted.is c.record_of-fresh.ensures
+returns-in-Accepted c = rw c.in-Accepted.is c.from-fresh.ensures
 
 pub returns-in-Refused : goal.returns-in-Refused
 unfolding record_opened

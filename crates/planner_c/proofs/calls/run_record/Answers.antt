@@ -3,4 +3,4 @@ use Rattle.planner_c.proofs.CallLaws.{record_ran}
 use Rattle.planner_c.proofs.calls.run_record.Goals as goal
 
 pub returns : goal.returns
-returns c = record_ran _ _ _ _ _ _ _ _ c.search_in-search.ensures c.run-ran.ensures c.reply_of-reply.ensures c.record_after-after.ensures
+returns c = record_ran _ _ _ _ _ _ _ _ c.from-search.ensures c.run-ran.ensures c.from.ensures c.record_after.ensures
