@@ -4,7 +4,7 @@ ghost use Rattle.clashes.specs.List.{put, pair_codes, list_of, Grown, Tabled};
 
 use crate::Clashes;
 use model::{Batch, Job};
-use tables::{Places, close_masks, longest_rest, tables_meet, widened};
+use tables::{Places, rested, tables_meet, widened};
 
 // Counts a code, and stores it where there is room.
 fn put_code(clashes: &mut Clashes, code: usize)
@@ -38,11 +38,10 @@ pub fn list_clashes(batch: &Batch, clashes: &mut Clashes)
     ensures { clashes.new ≡ list_of batch.now }
 {
     let n = usize::from(batch.n);
-    let longest = longest_rest(&batch.rests);
-    let close = close_masks(&batch.rests, longest);
+    let rests = rested(&batch.rests);
     clashes.count = 0;
     for i in 0..n.saturating_sub(1) {
-        let first = widened(&batch.jobs[i], &close, longest);
+        let first = widened(&batch.jobs[i], &rests);
         for j in i + 1..n {
             add_pair(clashes, &first, &batch.jobs[j], i * 2048 + j * 64);
         }

@@ -6,6 +6,7 @@ use Rattle.model.specs.declared.Job.{Job}
 use Rattle.model.specs.Limits.{stations, most_rest}
 use Rattle.model.specs.Batch.{bit}
 use Rattle.model.specs.Plan.{too_close}
+use Rattle.tables.specs.declared.Rests.{Rests}
 
 -- each rest is at most 7
 pub record Resting (rests : List ℕ) : Type 0 where
@@ -24,6 +25,11 @@ pub record CloseAt (rests : List ℕ) (gap mask n : ℕ) : Type 0 where
 -- the stations for which two ticks are too close, by the difference of the ticks + 22, which is below 45
 pub record Closes (rests close : List ℕ) : Type 0 where
   pub each : (e s : ℕ) → e < 45 → s < stations → bit (get_or close e 0) s ≡ too_close (get_or rests s 0) (sub_ℕ e 22)
+
+-- what widening needs of the rests; where no station rests, nobody asks for the stations
+pub record Rested (rests : List ℕ) (r : Rests) : Type 0 where
+  pub longest : Longest rests r.longest 16
+  pub close : 0 < r.longest → Closes rests r.close
 
 -- a mask holds the stations of place x: those that are held, in one of the first p ticks, too close to it
 pub record Near (rests masks : List ℕ) (p x mask : ℕ) : Type 0 where

@@ -5,7 +5,14 @@ mod meeting;
 mod rest;
 
 pub use meeting::tables_meet;
-pub use rest::{close_masks, longest_rest, widened};
+pub use rest::{rested, widened};
+
+// The rests of a batch: the longest, and the stations for which two ticks are too close, by the difference of the ticks + 22.
+#[derive(Clone, Copy)]
+pub struct Rests {
+    pub longest: usize,
+    pub close: [u16; 45],
+}
 
 // A table by its places, of which those from low on and before end count.
 #[derive(Clone, Copy)]

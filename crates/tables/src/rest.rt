@@ -1,13 +1,13 @@
 // A job's table widened by the rests: tick a stands at place a + 7, and a station stands at every place that is too close to a tick in which the job
 // holds it. Two jobs then clash exactly where the one's table, widened, meets the other's as it is.
 ghost use Rattle.std.specs.Prelude.{◌≡◌, List, ℕ, ◌+◌, ◌-◌, ◌≤◌, ◌<◌};
-ghost use Rattle.tables.specs.Rest.{Resting, Longest, CloseAt, Closes, Near, Widens};
+ghost use Rattle.tables.specs.Rest.{Resting, Longest, CloseAt, Closes, Rested, Near, Widens};
 
-use crate::Places;
+use crate::{Places, Rests};
 use model::Job;
 
 // The longest rest of a station.
-pub fn longest_rest(rests: &[u8; 16]) -> usize
+fn longest_rest(rests: &[u8; 16]) -> usize
     requires { Resting rests.now }
     ensures { Longest rests.now result 16 }
 {
@@ -29,7 +29,7 @@ fn close_at(rests: &[u8; 16], gap: usize) -> u16
 
 // The stations for which two ticks are too close, by the difference of the ticks + 22. Ticks further apart than the longest rest are too close for none.
 // Where no station rests nobody asks, and nothing is worked out.
-pub fn close_masks(rests: &[u8; 16], longest: usize) -> [u16; 45]
+fn close_masks(rests: &[u8; 16], longest: usize) -> [u16; 45]
     requires { Longest rests.now longest 16 }
     ensures { 0 < longest → Closes rests.now result }
 {
@@ -40,6 +40,18 @@ pub fn close_masks(rests: &[u8; 16], longest: usize) -> [u16; 45]
         }
     }
     close
+}
+
+// What widening needs of the rests, worked out once for all jobs.
+pub fn rested(rests: &[u8; 16]) -> Rests
+    requires { Resting rests.now }
+    ensures { Rested rests.now result }
+{
+    let longest = longest_rest(rests);
+    Rests {
+        longest,
+        close: close_masks(rests, longest),
+    }
 }
 
 // The stations of place x: those that are held, in one of the job's ticks, too close to it.
@@ -77,20 +89,21 @@ fn near_places(job: &Job, close: &[u16; 45], longest: usize) -> [u16; 30]
     places
 }
 
-// The widened table where none rests more than `longest` ticks.
-pub fn widened(job: &Job, close: &[u16; 45], longest: usize) -> Places
-    requires { (job.now.ticks ≤ 16) × (longest ≤ 7) }
-    ensures low { result.low ≡ 7 - longest }
-    ensures end { result.end ≡ 7 + job.now.ticks + longest }
-    ensures widens { (rests : List ℕ) → Longest rests longest 16 → (0 < longest → Closes rests close.now) → Widens rests job.now result.low result.end result.masks }
+// The widened table.
+pub fn widened(job: &Job, rests: &Rests) -> Places
+    requires { (job.now.ticks ≤ 16) × (rests.now.longest ≤ 7) }
+    ensures low { result.low ≡ 7 - rests.now.longest }
+    ensures end { result.end ≡ 7 + job.now.ticks + rests.now.longest }
+    ensures widens { (all : List ℕ) → Rested all rests.now → Widens all job.now result.low result.end result.masks }
 {
+    let longest = rests.longest;
     Places {
         low: 7 - longest,
         end: 7 + usize::from(job.ticks) + longest,
         masks: if longest == 0 {
             as_it_is(job)
         } else {
-            near_places(job, close, longest)
+            near_places(job, &rests.close, longest)
         },
     }
 }

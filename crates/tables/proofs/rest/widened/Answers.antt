@@ -3,4 +3,4 @@ use Rattle.tables.proofs.RestLaws.{plain_widens}
 use Rattle.tables.proofs.rest.widened.Goals as goal
 
 pub returns-then-longest-eq0-clause-widens : goal.returns-then-longest-eq0-clause-widens
-returns-then-longest-eq0-clause-widens c rests l h = rw c.from.ensures (plain_widens rests _ _ _ c.if-longest-eq0.true l (c.as_it_is.ensures rests))
+returns-then-longest-eq0-clause-widens c all r = rw c.from.ensures (plain_widens all _ _ _ c.if-longest-eq0.true r.longest (c.as_it_is.ensures all))
