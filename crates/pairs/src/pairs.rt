@@ -5,6 +5,7 @@ ghost use Rattle.pairs.specs.Pairs.{bit_of, Room, OfJobs, Paired, NoneMet};
 
 // The first `count` places have a pair each: pair[q] is its jobs, as i * 32 + j, held[q] the bits of its distances, and end[q] the number of the codes
 // up to its last.
+// No heap, and three arrays: an array of structs of the three would take 16 bytes a pair of the stack, in place of 12.
 #[derive(Clone, Copy)]
 pub struct Pairs {
     pub pair: [u16; 276],
@@ -22,6 +23,7 @@ fn bit_of(later: usize, earlier: usize) -> usize
 }
 
 // The pairs of the first count codes. Codes past 276 pairs, which 24 jobs do not have, are left out; no answer rests on that.
+// The codes come with a count, and not as a slice, so that Paired speaks of a search's codes and not of a part of them.
 pub fn find_pairs(codes: &[u16; 1024], count: usize, pairs: &mut Pairs)
     requires count_bound { count ≤ 1024 }
     requires known { Known codes.now count }
