@@ -1,7 +1,5 @@
 -- `run::advance` meets its contract: the kit and the trail stand for the record's batch and place, and the nodes lead from it.
-use mathlib.Core.Path.{◌≡◌, ◌∙◌}
-use borrow.Author.Rules.{rules}
-use lib.ListN.{length}
+use mathlib.Core.Path.{◌∙◌}
 use Rattle.pairs.proofs.PairedLaws.{room_new}
 use Rattle.node.proofs.StepsLaws.{steps_none}
 use Rattle.search.proofs.AdvanceLaws.{first_placed, first_paired, first_times, first_path, first_coded, first_works, advanced}
