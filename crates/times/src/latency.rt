@@ -1,5 +1,6 @@
 // The latency of starts, the largest sum of a start and a stay, as a value that starts raise. Past n both arrays hold 0, so that all 24 places may be taken: a
-// loop of known length is one that the compiler takes a whole row at a time.
+// loop of known length is one that the compiler takes a whole row at a time. How small the numbers are is asked in the contracts, and not kept by a type around
+// an array: it would be no plainer, since the starts' bound differs from function to function, and the stays' is one fact of one array.
 ghost use Rattle.std.specs.Prelude.{◌≡◌};
 ghost use Rattle.times.specs.Fill.{Small};
 ghost use Rattle.times.specs.Latency.{raised_by};
