@@ -27,8 +27,9 @@ pub fn put_two(buffer: &mut [u8], at: usize, number: u16) -> usize
     requires { at + 4 ≤ length buffer.old }
     ensures { (result ≡ at + 4) × (buffer.new ≡ overwritten buffer.old at (digits_of (two number))) }
 {
-    let next = put_byte(buffer, at, (number / 256) as u8);
-    put_byte(buffer, next, (number % 256) as u8)
+    let [high, low] = number.to_be_bytes();
+    let next = put_byte(buffer, at, high);
+    put_byte(buffer, next, low)
 }
 
 // A number of four bytes, high byte first.
