@@ -8,7 +8,6 @@ use limits::{jobs_ok, weight_ok};
 use model::{Delay, Refusal};
 
 // A delay between n jobs.
-#[tactic(auto, using(model::proofs::OutcomeLaws::accepts_require, model::proofs::OutcomeLaws::refuses_require), unfolding(model::specs::Open::delay, model::specs::Open::delay_in, model::specs::Open::signed, model::specs::Refusal::told, model::specs::Refusal::number, model::specs::Line::frame_is))]
 pub fn delay_frame(frame: &Frame<'_>, n: u8) -> Result<Delay, Refusal>
     ensures { told result ≡ delay n frame.now }
 {

@@ -8,7 +8,6 @@ use limits::{counts_ok, edition_ok};
 use model::Refusal;
 
 // The edition, n and m.
-#[tactic(auto, using(model::proofs::OutcomeLaws::accepts_require, model::proofs::OutcomeLaws::refuses_require), unfolding(model::specs::Open::header, model::specs::Refusal::told, model::specs::Refusal::number, model::specs::Line::frame_is))]
 pub fn header_frame(frame: &Frame<'_>) -> Result<(u8, u8, u8), Refusal>
     ensures { told result ≡ header frame.now }
 {

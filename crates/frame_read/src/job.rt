@@ -26,7 +26,6 @@ fn masks_of(frame: &Frame<'_>, p: usize) -> [u16; 16]
     masks
 }
 
-#[tactic(auto, using(model::proofs::OutcomeLaws::accepts_require, model::proofs::OutcomeLaws::refuses_require), unfolding(model::specs::Open::job, model::specs::Open::job_in, model::specs::Refusal::told, model::specs::Refusal::number, model::specs::Line::frame_is))]
 pub fn job_frame(frame: &Frame<'_>) -> Result<Job, Refusal>
     ensures { told result ≡ job frame.now }
 {

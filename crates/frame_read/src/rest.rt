@@ -11,7 +11,6 @@ use limits::rest_line_ok;
 use model::Refusal;
 
 // The station and its rest, after other lines: `low` is the lowest station that is above all of theirs.
-#[tactic(auto, unfolding(model::specs::Line::frame_is))]
 pub fn rest_frame(frame: &Frame<'_>, low: u8) -> Result<(u8, u8), Refusal>
     ensures { (before : List RestLine) → Lowest rest_station low before → told result ≡ rest_told (rest before frame.now) }
 {

@@ -11,7 +11,6 @@ use limits::ends_ok;
 use model::{Refusal, Window};
 
 // The job and its window, among n jobs, and after other lines: `low` is the lowest job that is above all of theirs.
-#[tactic(auto, unfolding(model::specs::Line::frame_is))]
 pub fn window_frame(frame: &Frame<'_>, n: u8, low: u8) -> Result<(u8, Window), Refusal>
     ensures { (before : List WindowLine) → Lowest window_job low before → told result ≡ window_told (window n before frame.now) }
 {
