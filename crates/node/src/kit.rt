@@ -4,7 +4,7 @@ use pairs::Pairs;
 use weights::Weights;
 
 // What does not change in a run: how many jobs and delays there are, the largest weight of each pair's delays, the jobs' stays and ends, the latency of the
-// earliest starts, the clashes' codes, and these by pairs of jobs.
+// earliest starts, the clashes' codes, and these by pairs of jobs. Arrays with a count beside: no heap, fixed memory.
 #[derive(Drop)]
 pub struct Kit {
     pub jobs: usize,
@@ -18,7 +18,8 @@ pub struct Kit {
     pub pairs: Pairs,
 }
 
-// What does: the turns of the present path, their inequalities, and the rows of the nodes above.
+// What does: the turns of the present path, their inequalities, and the rows of the nodes above. How many turns there are, the walk knows: a trail is lent
+// to the search whole, and no turn is moved when one is dropped. A turn is the number 2 * clash + side, half the memory of a Turn.
 #[derive(Drop)]
 pub struct Trail {
     pub turns: [u16; 1024],
@@ -26,7 +27,8 @@ pub struct Trail {
     pub rows: [Row; 32],
 }
 
-// Where a search stands while it runs, its turns in the trail: how many there are, and best with its starts.
+// Where a search stands while it runs, its turns in the trail: how many there are, and best with its starts. These stand beside it as in the record of a
+// search, whose theorems speak of the starts where there is no best, too (place_at).
 #[derive(Clone, Copy)]
 pub struct Walk {
     pub depth: usize,
@@ -42,7 +44,8 @@ pub struct Reach {
     pub latency: u16,
 }
 
-// What a node has come to, under its depth as a tag.
+// What a node has come to, under its depth as a tag. A place without a row has a tag that is no depth: an Option in its place would be no plainer, since a row
+// of another depth is passed over by the same test.
 #[derive(Clone, Copy)]
 pub struct Row {
     pub tag: u16,

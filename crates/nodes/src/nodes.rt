@@ -15,7 +15,8 @@ pub struct Walked {
     pub tally: Tally,
 }
 
-// One node more, in place.
+// One node more. The tally is lent to a thin counter: document 01 names this form.
+#[tactic(auto, unfolding(model::specs::Run::counted))]
 fn count_node(tally: &mut Tally)
     requires { (0 < tally.old.left) × (tally.old.total + tally.old.left ≤ 100000000) }
     ensures { tally.new ≡ counted tally.old }
@@ -32,6 +33,7 @@ pub fn visit_nodes(kit: &Kit, trail: &mut Trail, start: Walk, budget: Tally) -> 
 {
     let mut walk = start;
     let mut tally = budget;
+    // No range to go over: the search may end before the budget does.
     while 0 < tally.left && !walk.ended {
         count_node(&mut tally);
         walk = visit(kit, trail, walk);
