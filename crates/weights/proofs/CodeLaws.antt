@@ -2,9 +2,8 @@
 -- weights rise. Codes of clashes: job numbers and distance are read back from the digits.
 use mathlib.Core.Path.{◌≡◌, refl, ◌∙◌, ap}
 use mathlib.Core.Bool.{true, false}
-use Prim.Native.Nat.{ℕ, zero, suc, ◌+◌, ◌-◌, ◌/◌, ◌%◌, ◌≤◌, ◌<◌}
+use Prim.Native.Nat.{ℕ, zero, suc, ◌+◌, ◌-◌, ◌/◌, ◌%◌, ◌≤◌}
 use native.Mathlib.Omega.{arith}
-use native.Mathlib.Decide.{dec_lt}
 use lib.Dec.{leb→le, le→leb}
 use lib.IntN.{ℤ, pos, negsuc, ◌+ℤ◌, ◌-ℤ◌, sub_ℕ, nat_abs}
 use lib.Signed.{le_z, ◌≤ℤ◌}
@@ -51,17 +50,20 @@ limited_fits : (w : ℤ) → Limited w → SFits w16 w
 limited_fits (pos k) h = let p : k ≤ 1000 = leb→le _ _ h.high.le in record { sfits = omega arith }
 limited_fits (negsuc k) h = let p : k ≤ 999 = leb→le _ _ h.low.le in record { sfits = omega arith }
 
-pub abs_is : (w : ℤ) → Limited w → nat_abs (to_z w16 (of_z w16 w) -ℤ pos 1000) ≡ coded w
+-- 1,000 less it, which is not negative
+lowered : (w : ℤ) → Limited w → pos 1000 -ℤ w ≡ pos (coded w)
 unfolding coded
-abs_is w f = rw (to_z-of_z w16 w (limited_fits w f)) (go w f)
-  where
-    below : (k : ℕ) → k ≤ 1000 → Dec (k < 1000) → nat_abs (sub_ℕ k 1000) ≡ 1000 - k
-    below k h (yes p) = rw (lt-ltb k 1000 p) (omega arith)
-    below k h (no p) = rw (le-ltb k 1000 (omega arith)) (omega arith)
+lowered (pos zero) h = refl
+lowered (pos (suc k)) h = let p : suc k ≤ 1000 = leb→le _ _ h.high.le in rw (le-ltb 1000 (suc k) p) refl
+lowered (negsuc k) h = refl
 
-    go : (w : ℤ) → Limited w → nat_abs (w -ℤ pos 1000) ≡ coded w
-    go (pos k) h = let p : k ≤ 1000 = leb→le _ _ h.high.le in below k p (dec_lt k 1000)
-    go (negsuc k) h = omega arith
+lowered16 : (w : ℤ) → Limited w → pos 1000 -ℤ to_z w16 (of_z w16 w) ≡ pos (coded w)
+lowered16 w h = rw (to_z-of_z w16 w (limited_fits w h)) (lowered w h)
+
+pub coded_is : (w : ℤ) → Limited w → nat_abs (to_z w16 (of_z w16 (pos 1000 -ℤ to_z w16 (of_z w16 w)))) ≡ coded w
+coded_is w h =
+    ap (λ (z : ℤ). nat_abs (to_z w16 (of_z w16 z))) (lowered16 w h)
+    ∙ ap nat_abs (to_z-of_z w16 (pos (coded w)) (record { sfits = omega (arith, coded_most w h) }))
 
 pub told_limited : (w : ℤ) → Limited w → Limited (to_z w16 (of_z w16 w))
 told_limited w h = rw (to_z-of_z w16 w (limited_fits w h)) h

@@ -14,7 +14,7 @@ fn code_of(w: i16) -> u16
     requires { Limited w }
     ensures { result ≡ coded w }
 {
-    w.abs_diff(1000)
+    (1000 - w) as u16
 }
 
 // The first m delays, tested and coded, if each of them passes. The places past them are 0.
