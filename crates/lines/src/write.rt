@@ -1,5 +1,5 @@
 // Writing a line where it is to stand: a byte or a number as digits, and the closing 0A. Each function answers the next place.
-ghost use Rattle.std.specs.Prelude.{◌≡◌, [], ◌∷◌, ◌+◌, ◌<◌, ◌≤◌, length};
+ghost use Rattle.std.specs.Prelude.{◌≡◌, [], ◌∷◌, ◌+◌, ◌*◌, ◌<◌, ◌≤◌, length};
 ghost use Rattle.model.specs.Line.{digit_of, digits_of, two, four};
 ghost use Rattle.lines.specs.Write.{overwritten};
 
@@ -27,9 +27,7 @@ pub fn put_two(buffer: &mut [u8], at: usize, number: u16) -> usize
     requires { at + 4 ≤ length buffer.old }
     ensures { (result ≡ at + 4) × (buffer.new ≡ overwritten buffer.old at (digits_of (two number))) }
 {
-    let [high, low] = number.to_be_bytes();
-    let next = put_byte(buffer, at, high);
-    put_byte(buffer, next, low)
+    put_bytes(buffer, at, &number.to_be_bytes())
 }
 
 // A number of four bytes, high byte first.
@@ -37,8 +35,19 @@ pub fn put_four(buffer: &mut [u8], at: usize, number: u32) -> usize
     requires { at + 8 ≤ length buffer.old }
     ensures { (result ≡ at + 8) × (buffer.new ≡ overwritten buffer.old at (digits_of (four number))) }
 {
-    let next = put_two(buffer, at, (number / 65536) as u16);
-    put_two(buffer, next, (number % 65536) as u16)
+    put_bytes(buffer, at, &number.to_be_bytes())
+}
+
+// The digits of bytes, one behind the other.
+fn put_bytes(buffer: &mut [u8], at: usize, bytes: &[u8]) -> usize
+    requires { at + 2 * length bytes.now ≤ length buffer.old }
+    ensures { (result ≡ at + 2 * length bytes.now) × (buffer.new ≡ overwritten buffer.old at (digits_of bytes.now)) }
+{
+    let mut next = at;
+    for byte in bytes {
+        next = put_byte(buffer, next, *byte);
+    }
+    next
 }
 
 // The digit of a value.

@@ -1,12 +1,18 @@
--- `put_four` puts the low half behind the high one.
+-- The number's four bytes.
+use Prim.Native.Nat.{ℕ}
+use mathlib.Core.Path.{◌≡◌, ap, ◌∙◌}
+use mathlib.Core.List.{List, [], ◌∷◌}
 use native.Mathlib.Omega.{arith}
-use borrow.Author.Rules.{rules}
-use Rattle.model.specs.Line.{two, four}
-use Rattle.lines.proofs.Puts.{put_digits}
+use lib.ListN.{length}
+use Rattle.model.specs.Line.{digits_of, two, four}
+use Rattle.lines.specs.Write.{overwritten}
 use Rattle.lines.proofs.write.put_four.Goals as goal
+
+same_four : {l : List ℕ} {a b c d a' b' c' d' : ℕ} → l ≡ a ∷ b ∷ c ∷ d ∷ [] → a ≡ a' → b ≡ b' → c ≡ c' → d ≡ d' → l ≡ a' ∷ b' ∷ c' ∷ d' ∷ []
+same_four e p q r s = cc
 
 pub returns : goal.returns
 unfolding two four
-returns c = let first = c.put_two-next.ensures in
-    let second = c.put_two.ensures in
-    (search rules, put_digits _ _ _ _ (omega arith) first.0 first.1 second.1)
+returns c =
+    let bytes : c.to_be_bytes.result ≡ four c.args.number = same_four c.to_be_bytes.ensures (omega arith) (omega arith) (omega arith) (omega arith) in
+    (omega (arith, c.put_bytes.ensures.0, ap length bytes), c.put_bytes.ensures.1 ∙ ap (λ (s : List ℕ). overwritten c.args.buffer.now c.args.at (digits_of s)) bytes)
