@@ -25,9 +25,7 @@ fn put_head(search: &Search, out: &mut Output) {
     let _ = write!(
         out,
         "D {} {} {} {ended}",
-        search.batch.n,
-        search.batch.m,
-        search.total
+        search.batch.n, search.batch.m, search.total
     );
     let _ = match search.best {
         None => write!(out, " - :"),

@@ -1,4 +1,5 @@
-// One line of a text, put at a place of a buffer. Each function answers the next place.
+// One line of a text, put at a place of a buffer. Each function answers the next place. (Buffer and place stand apart: a struct of both would hold a `&mut`,
+// and its contracts would say no less, in more words.)
 #![tactic(auto)]
 
 mod frame;

@@ -1,4 +1,5 @@
-// The window lines of a batch, one for each job that has one, jobs in rising order.
+// The window lines of a batch, one for each job that has one, jobs in rising order. (A batch comes by value: a proof does not know how long the arrays of
+// structs are in one that is lent.)
 ghost use Rattle.std.specs.Prelude.{◌≡◌, ◌==◌, not, ◌+◌, ◌*◌, ◌≤◌, length, count_by};
 ghost use Rattle.model.specs.Common.{joined};
 ghost use Rattle.model.specs.Limits.{most_jobs};

@@ -54,7 +54,7 @@ fn searched(fresh: Search, text: &mut [u8]) -> usize
     refusal(text, 14)
 }
 
-// The text for a batch file, at the front of a buffer; its length.
+// The text for a batch file, at the front of a buffer; its length. (Buffer and length stand apart, as the definition `at_front` has them.)
 pub fn plan_text(file: &[u8], text: &mut [u8]) -> usize
     requires { 235 ≤ length text.old }
     ensures { (result, text.new) ≡ at_front (text_for file.now) text.old }
