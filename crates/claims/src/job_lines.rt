@@ -47,6 +47,7 @@ pub fn read_lines(text: &[u8], at: usize) -> Option<Lines>
     let mut ordered = true;
     let mut place = at;
     let mut k: usize = 0;
+    // A `while`: a turn goes on by a line, and k counts the lines.
     while place < text.len() {
         let line = read_job(text, place)?;
         ordered = in_order(ordered, line.job, k);

@@ -132,25 +132,6 @@ module _ (b : Batch) (w : Within b) (f : few_clashes b ≡ true) (l : Clashes) (
   pub clash_told : (us : List ℕ) → holds (first_code l.codes l.count us) ≡ is_some (first_met (clashes b) us 0)
   clash_told us = ap holds (first_listed b l e few (within_tabled b w) us us (λ i h. refl)) ∙ found_is (first_met (clashes b) us 0)
 
--- ---- one test after the other
-
-module _ (b : Batch) (us : List ℕ) (x : Bool) (p : x ≡ all (keeps us) (delays_of b)) where
-  abbrev unmet : Bool
-  unmet = not (is_some (first_met (clashes b) us 0))
-
-  pub valid_delays : not x ≡ true → false ≡ valid b us
-  unfolding valid
-  valid_delays e = ap (λ (q : Bool). q && keeps_ends b us && unmet) (sym (fails p e))
-
-  module _ (e : not x ≡ false) (y : Bool) (q : y ≡ keeps_ends b us) where
-    pub valid_ends : y ≡ false → y ≡ valid b us
-    unfolding valid
-    valid_ends f = f ∙ ap₂ (λ (u v : Bool). u && v && unmet) (sym (passes p e)) (sym f ∙ q)
-
-    pub valid_clashes : y ≡ true → (z : Bool) → z ≡ is_some (first_met (clashes b) us 0) → not z ≡ valid b us
-    unfolding valid
-    valid_clashes f z r = ap not r ∙ ap₂ (λ (u v : Bool). u && v && unmet) (sym (passes p e)) (sym f ∙ q)
-
 -- ---- starts that stand elsewhere: the same plan
 
 module _ (b : Batch) (us ts : List ℕ) (agree : (i : ℕ) → start us i ≡ start ts i) where

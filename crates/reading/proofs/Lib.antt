@@ -1,4 +1,4 @@
--- Laws about reading a whole file, frame after frame. They serve the proofs here.
+-- Laws about reading a whole file, frame after frame. They serve the proofs here; opening and judging take `Told`.
 pub mod Reading
 pub mod Told
 pub mod FileLaws
