@@ -21,7 +21,12 @@ pub fn tables_meet(first: &Places, second: &Job, k: usize) -> bool
     requires k_bound { k < 45 }
     ensures { result ≡ tables_meet first.now.low first.now.end first.now.masks second.now (sub_ℕ k 15) }
 {
-    let from = first.low.max(k.saturating_sub(15));
+    // As first.low.max(k.saturating_sub(15)): tried, and the clash list took a fifth longer.
+    let from = if k < first.low + 15 {
+        first.low
+    } else {
+        k - 15
+    };
     let last = first
         .end
         .min((usize::from(second.ticks) + k).saturating_sub(15));
