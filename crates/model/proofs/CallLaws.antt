@@ -18,6 +18,7 @@ use Rattle.std.specs.Prelude.{None, Some}
 use Rattle.model.specs.declared.Search.{Search}
 use Rattle.model.specs.declared.Ran.{Ran}
 use Rattle.model.specs.Common.{Outcome, refuse, accept, ◌>>=◌, require}
+use Rattle.model.specs.Refusal.{number, named}
 use Rattle.model.specs.Limits.{most_budget, most_total}
 use Rattle.model.specs.Plan.{Valid, Shortest, latency}
 use Rattle.model.specs.Clash.{clashes}
@@ -232,7 +233,7 @@ module _ (b : Batch) (passes : Passes b) (n : ℕ) (end : End b (fits b passes) 
         record {
           search = ap (λ (x : Ran × List ℕ). x.0.search) whole;
           sound = there;
-          refused = (λ h. (k, ap (λ (x : Ran × List ℕ). run_told x.0.answer) whole), λ h. refl);
+          refused = (λ h. (number (named k), ap (λ (x : Ran × List ℕ). run_told x.0.answer) whole), λ h. refl);
           answer = λ h. apart (sym h);
         }
     called_by false f =

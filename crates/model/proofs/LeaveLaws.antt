@@ -17,6 +17,7 @@ use Rattle.model.specs.declared.Answer.{Answer}
 use Rattle.model.specs.Common.{Outcome, refuse, accept, ◌>>=◌, require}
 use Rattle.model.specs.Clash.{Clash, clashes}
 use Rattle.model.specs.Search.{node, search_of, nodes_on, nodes}
+use Rattle.model.specs.Refusal.{number, named}
 use Rattle.model.specs.Open.{opened_as, opened}
 use Rattle.model.specs.Limits.{most_budget, most_total}
 use Rattle.model.specs.Sound.{sound}
@@ -25,6 +26,7 @@ use Rattle.model.specs.Answers.{spent, plan, no_plan, run_told, verdict_of, open
 use Rattle.model.specs.Text.{fitting, written_as, written}
 use Rattle.model.specs.Demands.{OpeningLeaves, RunLeaves, WritingLeaves}
 use Rattle.model.proofs.OutcomeLaws.{refused, refuse_as, accept_eq, require_accepts}
+use Rattle.model.proofs.RefusalLaws.{Given, given_number, open_given, run_given, open_refusals, run_refusals}
 use Rattle.model.proofs.SoundLaws.{sound_nodes}
 
 -- ---- opening
@@ -33,7 +35,7 @@ pub opening_leaves : (file : List ℕ) → OpeningLeaves file (opened file)
 unfolding opened opened_as open_told
 opening_leaves file =
     record {
-      refused = λ k e. (ap (λ (o : Outcome Batch). open_told (opened_as o).answer) e, ap (λ (o : Outcome Batch). (opened_as o).search) e);
+      refused = λ k e. (ap (λ (o : Outcome Batch). open_told (opened_as o).answer) e ∙ ap refuse (given_number k (open_given (open_refusals file k e))), ap (λ (o : Outcome Batch). (opened_as o).search) e);
       accepted = λ b e. (ap (λ (o : Outcome Batch). open_told (opened_as o).answer) e, ap (λ (o : Outcome Batch). (opened_as o).search) e);
     }
 
@@ -107,7 +109,7 @@ running_leaves s budget list = by (run_refusal s budget (length list)) refl
     by : (o : Outcome (Unit {0})) → run_refusal s budget (length list) ≡ o → RunLeaves s budget list (ran_as o s budget list).0 (ran_as o s budget list).1
     by (refuse k) e =
         record {
-          refused = λ j f. (refuse_as (sym e ∙ f), refl, refl);
+          refused = λ j f. (ap refuse (given_number k (run_given (run_refusals s budget (length list) k e))) ∙ refuse_as (sym e ∙ f), refl, refl);
           reached = λ f. refused (sym e ∙ f);
           batch = refl;
           sound_kept = refl;
@@ -132,11 +134,11 @@ running_leaves s budget list = by (run_refusal s budget (length list)) refl
 
 -- ---- writing
 
-pub writing_leaves : (text : Outcome (List ℕ)) (buffer : List ℕ) → WritingLeaves text buffer (written text buffer).0 (written text buffer).1
-unfolding written written_as write_told fitting ◌>>=◌ require
-writing_leaves (refuse k) buffer =
-    record { refused = λ j e. (refuse_as e, refl); long = λ t e h. refused e; fits = λ t e h. refused e }
-writing_leaves (accept t) buffer = by (leb (length t) (length buffer)) refl
+pub writing_leaves : (text : Outcome (List ℕ)) → ((k : ℕ) → text ≡ refuse k → Given k) → (buffer : List ℕ) → WritingLeaves text buffer (written text buffer).0 (written text buffer).1
+unfolding written written_as write_told fitting ◌>>=◌ require named number
+writing_leaves (refuse k) given buffer =
+    record { refused = λ j e. (ap refuse (given_number k (given k refl)) ∙ refuse_as e, refl); long = λ t e h. refused e; fits = λ t e h. refused e }
+writing_leaves (accept t) given buffer = by (leb (length t) (length buffer)) refl
   where
     by : (p : Bool) → leb (length t) (length buffer) ≡ p → WritingLeaves (accept t) buffer (written_as (require 16 p >>= λ x. accept t) buffer).0 (written_as (require 16 p >>= λ x. accept t) buffer).1
     by true h =

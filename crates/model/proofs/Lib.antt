@@ -4,6 +4,7 @@ pub mod ListLaws
 pub mod SeqLaws
 pub mod AllLaws
 pub mod OutcomeLaws
+pub mod NamedLaws
 pub mod RefusalLaws
 pub mod LineLaws
 pub mod LimitLaws

@@ -8,14 +8,14 @@ use native.Mathlib.Decide.{dec_le}
 use lib.ListN.{length, take, drop, length-take}
 use Rattle.model.specs.declared.Batch.{Batch}
 use Rattle.model.specs.declared.Search.{Search}
-use Rattle.model.specs.declared.Opening.{Opening}
-use Rattle.model.specs.declared.Opening.TheVariants.{Accepted, Refused as Closed}
+use Rattle.std.specs.Prelude.{Result, Ok, Err}
+use Rattle.model.specs.declared.refusal.Refusal.{Refusal}
+use Rattle.model.specs.Refusal.{named}
+use Rattle.model.proofs.NamedLaws.{named_number}
 use Rattle.model.specs.declared.Opened.{Opened}
 use Rattle.model.specs.declared.Answer.{Answer}
 use Rattle.model.specs.declared.Answer.TheVariants.{Spent, Plan, NoPlan, Refused}
 use Rattle.model.specs.declared.Ran.{Ran}
-use Rattle.model.specs.declared.Written.{Written}
-use Rattle.model.specs.declared.Written.TheVariants.{Bytes, Refused as Unwritten}
 use Rattle.model.specs.Common.{Outcome, refuse, accept}
 use Rattle.model.specs.Plan.{Valid, Shortest, latency}
 use Rattle.model.specs.Format.{BatchFile}
@@ -33,17 +33,17 @@ use Rattle.model.proofs.OpenLaws.{open_format}
 told_one : {A B : Type 0} (told : A → B) (back : B → A) → ((a : A) → back (told a) ≡ a) → (a c : A) → told a ≡ told c → a ≡ c
 told_one told back same a c e = sym (same a) ∙ ap back e ∙ same c
 
-pub open_one : (a c : Opening) → open_told a ≡ open_told c → a ≡ c
+pub open_one : (a c : Result (Unit {0}) Refusal) → open_told a ≡ open_told c → a ≡ c
 unfolding open_told
 open_one = told_one open_told back same
   where
-    back : Outcome (Unit {0}) → Opening
-    back (accept u) = Accepted
-    back (refuse number) = Closed number
+    back : Outcome (Unit {0}) → Result (Unit {0}) Refusal
+    back (accept u) = Ok u
+    back (refuse k) = Err (named k)
 
-    same : (a : Opening) → back (open_told a) ≡ a
-    same Accepted = refl
-    same (Closed number) = refl
+    same : (a : Result (Unit {0}) Refusal) → back (open_told a) ≡ a
+    same (Ok u) = refl
+    same (Err r) = ap Err (named_number r)
 
 pub run_one : (a c : Answer) → run_told a ≡ run_told c → a ≡ c
 unfolding run_told
@@ -53,25 +53,25 @@ run_one = told_one run_told back same
     back (accept (spent total)) = Spent total
     back (accept (plan latency total)) = Plan latency total
     back (accept (no_plan total)) = NoPlan total
-    back (refuse number) = Refused number
+    back (refuse k) = Refused (named k)
 
     same : (a : Answer) → back (run_told a) ≡ a
     same (Spent total) = refl
     same (Plan latency total) = refl
     same (NoPlan total) = refl
-    same (Refused number) = refl
+    same (Refused r) = ap Refused (named_number r)
 
-pub write_one : (a c : Written) → write_told a ≡ write_told c → a ≡ c
+pub write_one : (a c : Result ℕ Refusal) → write_told a ≡ write_told c → a ≡ c
 unfolding write_told
 write_one = told_one write_told back same
   where
-    back : Outcome ℕ → Written
-    back (accept number) = Bytes number
-    back (refuse number) = Unwritten number
+    back : Outcome ℕ → Result ℕ Refusal
+    back (accept count) = Ok count
+    back (refuse k) = Err (named k)
 
-    same : (a : Written) → back (write_told a) ≡ a
-    same (Bytes number) = refl
-    same (Unwritten number) = refl
+    same : (a : Result ℕ Refusal) → back (write_told a) ≡ a
+    same (Ok count) = refl
+    same (Err r) = ap Err (named_number r)
 
 -- ---- demand 1: what each call leaves
 
@@ -116,20 +116,20 @@ run_pinned s budget list r r' after after' h h' = by (run_refusal s budget (leng
 pub run_keeps : (s : Search) (budget : ℕ) (list : List ℕ) (r : Ran) (after : List ℕ) → RunLeaves s budget list r after → (r.search.batch ≡ s.batch) × (sound r.search ≡ sound s)
 run_keeps s budget list r after h = (h.batch, h.sound_kept)
 
-pub writing_pinned : (text : Outcome (List ℕ)) (buffer : List ℕ) (w w' : Written) (after after' : List ℕ) → WritingLeaves text buffer w after → WritingLeaves text buffer w' after' → ◌≡◌ {A = Written × List ℕ} (w, after) (w', after')
+pub writing_pinned : (text : Outcome (List ℕ)) (buffer : List ℕ) (w w' : Result ℕ Refusal) (after after' : List ℕ) → WritingLeaves text buffer w after → WritingLeaves text buffer w' after' → ◌≡◌ {A = Result ℕ Refusal × List ℕ} (w, after) (w', after')
 writing_pinned text buffer w w' after after' h h' = by text refl
   where
-    whole : (told : Outcome ℕ) (left : List ℕ) → (write_told w ≡ told) × (after ≡ left) → (write_told w' ≡ told) × (after' ≡ left) → ◌≡◌ {A = Written × List ℕ} (w, after) (w', after')
+    whole : (told : Outcome ℕ) (left : List ℕ) → (write_told w ≡ told) × (after ≡ left) → (write_told w' ≡ told) × (after' ≡ left) → ◌≡◌ {A = Result ℕ Refusal × List ℕ} (w, after) (w', after')
     whole told left (p, q) (p', q') =
         let answers = write_one w w' (p ∙ sym p') in
         let lists = q ∙ sym q' in
         λ i. (answers i, lists i)
 
-    by : (o : Outcome (List ℕ)) → text ≡ o → ◌≡◌ {A = Written × List ℕ} (w, after) (w', after')
+    by : (o : Outcome (List ℕ)) → text ≡ o → ◌≡◌ {A = Result ℕ Refusal × List ℕ} (w, after) (w', after')
     by (refuse k) e = whole _ _ (h.refused k e) (h'.refused k e)
     by (accept t) e = room (dec_le (length t) (length buffer))
       where
-        room : Dec (length t ≤ length buffer) → ◌≡◌ {A = Written × List ℕ} (w, after) (w', after')
+        room : Dec (length t ≤ length buffer) → ◌≡◌ {A = Result ℕ Refusal × List ℕ} (w, after) (w', after')
         room (yes p) = whole _ _ (h.fits t e p) (h'.fits t e p)
         room (no p) = let q : length buffer < length t = omega arith in whole _ _ (h.long t e q) (h'.long t e q)
 

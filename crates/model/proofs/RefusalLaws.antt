@@ -21,7 +21,9 @@ use Rattle.model.specs.Open.{header, job, delay, due, read_one, read_all, read_k
 use Rattle.model.specs.Run.{run_refusal}
 use Rattle.model.specs.Text.{plan_text, batch_text, fitting}
 use Rattle.model.specs.Judge.{read_claim, as17, judge_text, judge}
+use Rattle.model.specs.Refusal.{number, named}
 use Rattle.model.proofs.OutcomeLaws.{refused, refuse_as}
+use Rattle.model.proofs.NamedLaws.{number_named}
 
 -- every refusal of this answer has a number that P holds of
 pub record Only {A : Type 0} (P : ℕ → Type 0) (o : Outcome A) : Type 0 where
@@ -245,3 +247,38 @@ only_judge file text =
 -- judging refuses as opening does, or with 17 to 19
 pub judge_refusals : (file text : List ℕ) (k : ℕ) → judge file text ≡ refuse k → JudgeNumber k
 judge_refusals file text = (only_judge file text).number
+
+-- ---- every call
+
+-- so each of these is the number of a refusal
+abbrev pub Given : ℕ → Type 0
+Given k = (1 ≤ k) × (k ≤ 21)
+
+pub given_number : (k : ℕ) → Given k → number (named k) ≡ k
+given_number k h = number_named k h.0 h.1
+
+pub open_given : {k : ℕ} → OpenNumber k → Given k
+open_given (inl h) = (omega (arith, h.0), omega (arith, h.1))
+open_given (inr h) = (omega (arith, h.0), omega (arith, h.1))
+
+pub run_given : {k : ℕ} → RunNumber k → Given k
+run_given h = (omega (arith, h.0), omega (arith, h.1))
+
+pub judge_given : {k : ℕ} → JudgeNumber k → Given k
+judge_given (inl h) = open_given h
+judge_given (inr h) = (omega (arith, h.0), omega (arith, h.1))
+
+pub plan_given : (s : Search) (k : ℕ) → plan_text s ≡ refuse k → Given k
+plan_given s k e = by ((only_plan s).number k e)
+  where
+    by : PlanNumber k → Given k
+    by (inl z) = (omega (arith, z), omega (arith, z))
+    by (inr (inl z)) = (omega (arith, z), omega (arith, z))
+    by (inr (inr z)) = (omega (arith, z), omega (arith, z))
+
+pub batch_given : (s : Search) (k : ℕ) → batch_text s ≡ refuse k → Given k
+batch_given s k e = by ((only_batch s).number k e)
+  where
+    by : BatchNumber k → Given k
+    by (inl z) = (omega (arith, z), omega (arith, z))
+    by (inr z) = (omega (arith, z), omega (arith, z))

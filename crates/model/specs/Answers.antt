@@ -5,12 +5,9 @@ use Rattle.model.specs.Best.{Best}
 use Rattle.std.specs.Prelude.{None, Some}
 use Rattle.model.specs.declared.Answer.{Answer}
 use Rattle.model.specs.declared.Answer.TheVariants.{Spent, Plan, NoPlan, Refused}
-use Rattle.model.specs.declared.Opening.{Opening}
-use Rattle.model.specs.declared.Opening.TheVariants.{Accepted, Refused as Closed}
-use Rattle.model.specs.declared.Written.{Written}
-use Rattle.model.specs.declared.Written.TheVariants.{Bytes, Refused as Unwritten}
-use Rattle.model.specs.declared.Judgement.{Judgement}
-use Rattle.model.specs.declared.Judgement.TheVariants.{Passed, Refused as Failed}
+use Rattle.std.specs.Prelude.{Result, Ok, Err}
+use Rattle.model.specs.declared.refusal.Refusal.{Refusal}
+use Rattle.model.specs.Refusal.{number}
 use Rattle.model.specs.Common.{Outcome, refuse, accept}
 
 -- a run: spent with the total, a plan with latency and total, or no plan with the total
@@ -23,7 +20,7 @@ unfoldable pub run_told : Answer → Outcome Verdict
 run_told (Spent total) = accept (spent total)
 run_told (Plan latency total) = accept (plan latency total)
 run_told (NoPlan total) = accept (no_plan total)
-run_told (Refused number) = refuse number
+run_told (Refused r) = refuse (number r)
 
 unfoldable pub total_told : Verdict → ℕ
 total_told (spent total) = total
@@ -37,19 +34,19 @@ verdict_of true none total = no_plan total
 verdict_of true (some latency) total = plan latency total
 
 -- opening: accepted, or refused
-unfoldable pub open_told : Opening → Outcome (Unit {0})
-open_told Accepted = accept tt
-open_told (Closed number) = refuse number
+unfoldable pub open_told : Result (Unit {0}) Refusal → Outcome (Unit {0})
+open_told (Ok u) = accept u
+open_told (Err r) = refuse (number r)
 
 -- writing: the number of bytes, or refused
-unfoldable pub write_told : Written → Outcome ℕ
-write_told (Bytes number) = accept number
-write_told (Unwritten number) = refuse number
+unfoldable pub write_told : Result ℕ Refusal → Outcome ℕ
+write_told (Ok count) = accept count
+write_told (Err r) = refuse (number r)
 
 -- judging: passed, or refused
-unfoldable pub judge_told : Judgement → Outcome (Unit {0})
-judge_told Passed = accept tt
-judge_told (Failed number) = refuse number
+unfoldable pub judge_told : Result (Unit {0}) Refusal → Outcome (Unit {0})
+judge_told (Ok u) = accept u
+judge_told (Err r) = refuse (number r)
 
 -- best: none, or a latency
 unfoldable pub best_told : Best → Option ℕ

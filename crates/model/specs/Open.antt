@@ -6,7 +6,8 @@ use Rattle.model.specs.declared.Delay.{Delay}
 use Rattle.model.specs.declared.Job.{Job}
 use Rattle.model.specs.declared.Batch.{Batch}
 use Rattle.model.specs.declared.Search.{Search}
-use Rattle.model.specs.declared.Opening.TheVariants.{Accepted, Refused}
+use Rattle.std.specs.Prelude.{Ok, Err}
+use Rattle.model.specs.Refusal.{named}
 use Rattle.model.specs.declared.Opened.{Opened}
 use Rattle.model.specs.Common.{between, pad, is_empty, is_some, Outcome, refuse, accept, ◌>>=◌, require, given}
 use Rattle.model.specs.Limits.{most_jobs, most_delays, most_ticks, most_weight, most_clashes}
@@ -159,8 +160,8 @@ unfoldable pub blank_search : Search
 blank_search = fresh_search (batch_of 1 [] [] no_further)
 
 unfoldable pub opened_as : Outcome Batch → Opened
-opened_as (accept b) = record { answer = Accepted; search = fresh_search b }
-opened_as (refuse k) = record { answer = Refused k; search = blank_search }
+opened_as (accept b) = record { answer = Ok tt; search = fresh_search b }
+opened_as (refuse k) = record { answer = Err (named k); search = blank_search }
 
 unfoldable pub opened : List ℕ → Opened
 opened file = opened_as (open_file file)

@@ -1,5 +1,5 @@
--- The number that 01 and 02 give each refusal, and what a room answers as the outcome that it stands for.
-use Rattle.std.specs.Prelude.{ℕ, Result, Ok, Err}
+-- The number that 01 and 02 give each refusal, the refusal that has a number, and what is answered as the outcome that it stands for.
+use Rattle.std.specs.Prelude.{ℕ, ◌-◌, List, [], ◌∷◌, get_or, Result, Ok, Err}
 use Rattle.model.specs.declared.refusal.Refusal.{Refusal}
 use Rattle.model.specs.declared.refusal.Refusal.TheVariants as refusal
 use Rattle.model.specs.Common.{Outcome, refuse, accept}
@@ -26,6 +26,17 @@ number refusal.PlanJobs = 18
 number refusal.PlanWrong = 19
 number refusal.Window = 20
 number refusal.Rest = 21
+
+-- by their numbers
+abbrev pub refusals : List Refusal
+refusals =
+    refusal.Line ∷ refusal.Kind ∷ refusal.Edition ∷ refusal.Counts ∷ refusal.DelayJobs ∷ refusal.Weight ∷ refusal.Missing ∷ refusal.Trailing ∷ refusal.Clashes ∷ refusal.Unmet
+    ∷ refusal.Budget ∷ refusal.Unsound ∷ refusal.ShortList ∷ refusal.Total ∷ refusal.Unended ∷ refusal.ShortBuffer ∷ refusal.PlanText ∷ refusal.PlanJobs ∷ refusal.PlanWrong
+    ∷ refusal.Window ∷ refusal.Rest ∷ []
+
+-- 01 and 02 give no other number
+unfoldable pub named : ℕ → Refusal
+named k = get_or refusals (k - 1) refusal.Line
 
 unfoldable pub told : {A : Type 0} → Result A Refusal → Outcome A
 told (Ok a) = accept a

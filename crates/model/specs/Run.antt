@@ -10,6 +10,7 @@ use Rattle.model.specs.declared.Ran.{Ran}
 use Rattle.model.specs.Common.{Outcome, refuse, accept, ◌>>=◌, require}
 use Rattle.model.specs.Limits.{most_budget, most_total}
 use Rattle.model.specs.Search.{nodes}
+use Rattle.model.specs.Refusal.{named}
 use Rattle.model.specs.Sound.{sound}
 
 unfoldable pub run_refusal : Search → ℕ → ℕ → Outcome (Unit {0})
@@ -34,7 +35,7 @@ unfoldable pub starts_after : Answer → ℕ → List ℕ → List ℕ → List 
 starts_after (Plan l total) n starts list = take n starts ++ drop n list
 starts_after (Spent total) n starts list = list
 starts_after (NoPlan total) n starts list = list
-starts_after (Refused k) n starts list = list
+starts_after (Refused r) n starts list = list
 
 -- the answer and the record, and the starts list
 unfoldable pub answered : Search → List ℕ → Ran × List ℕ
@@ -43,7 +44,7 @@ answered s list =
     (record { answer = a; search = s }, starts_after a s.batch.n s.starts list)
 
 unfoldable pub ran_as : Outcome (Unit {0}) → Search → ℕ → List ℕ → Ran × List ℕ
-ran_as (refuse k) s budget list = (record { answer = Refused k; search = s }, list)
+ran_as (refuse k) s budget list = (record { answer = Refused (named k); search = s }, list)
 ran_as (accept u) s budget list = answered (nodes budget s) list
 
 unfoldable pub ran : Search → ℕ → List ℕ → Ran × List ℕ

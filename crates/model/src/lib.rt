@@ -68,13 +68,13 @@ pub struct Search {
     pub ended: bool,
 }
 
-// The answer of a run.
+// The answer of a run. It is no Result: 01 names these four cases.
 #[derive(Clone, Copy)]
 pub enum Answer {
     Spent(u32),
     Plan(u16, u32),
     NoPlan(u32),
-    Refused(u8),
+    Refused(Refusal),
 }
 
 #[derive(Clone, Copy)]
@@ -83,31 +83,11 @@ pub struct Ran {
     pub search: Search,
 }
 
-// The answer of opening.
-#[derive(Clone, Copy)]
-pub enum Opening {
-    Accepted,
-    Refused(u8),
-}
-
+// What opening leaves: a refused one the blank record.
 #[derive(Clone, Copy)]
 pub struct Opened {
-    pub answer: Opening,
+    pub answer: Result<(), Refusal>,
     pub search: Search,
-}
-
-// The answer of writing: the number of bytes, or the refusal.
-#[derive(Clone, Copy)]
-pub enum Written {
-    Bytes(usize),
-    Refused(u8),
-}
-
-// The answer of judging a plan text.
-#[derive(Clone, Copy)]
-pub enum Judgement {
-    Passed,
-    Refused(u8),
 }
 
 // The nodes visited and the nodes still allowed.
