@@ -1,6 +1,6 @@
 -- A refusal and its number say the same.
 use Prim.Native.Nat.{ℕ, zero, suc, ◌≤◌}
-use mathlib.Core.Path.{◌≡◌, refl}
+use mathlib.Core.Path.{◌≡◌, refl, ap, sym, ◌∙◌}
 use native.Mathlib.Omega.{arith}
 use Rattle.model.specs.declared.refusal.Refusal.{Refusal}
 use Rattle.model.specs.declared.refusal.Refusal.TheVariants as refusal
@@ -55,3 +55,7 @@ number_named (suc (suc (suc (suc (suc (suc (suc (suc (suc (suc (suc (suc (suc (s
 number_named (suc (suc (suc (suc (suc (suc (suc (suc (suc (suc (suc (suc (suc (suc (suc (suc (suc (suc (suc (suc zero)))))))))))))))))))) h g = refl
 number_named (suc (suc (suc (suc (suc (suc (suc (suc (suc (suc (suc (suc (suc (suc (suc (suc (suc (suc (suc (suc (suc zero))))))))))))))))))))) h g = refl
 number_named (suc (suc (suc (suc (suc (suc (suc (suc (suc (suc (suc (suc (suc (suc (suc (suc (suc (suc (suc (suc (suc (suc k)))))))))))))))))))))) h g = absurd (omega arith)
+
+-- no two refusals have one number
+pub number_one : (r r' : Refusal) → number r ≡ number r' → r ≡ r'
+number_one r r' e = sym (named_number r) ∙ ap named e ∙ named_number r'

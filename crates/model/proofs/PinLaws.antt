@@ -10,7 +10,7 @@ use Rattle.model.specs.declared.Batch.{Batch}
 use Rattle.model.specs.declared.Search.{Search}
 use Rattle.std.specs.Prelude.{Result, Ok, Err}
 use Rattle.model.specs.declared.refusal.Refusal.{Refusal}
-use Rattle.model.specs.Refusal.{named}
+use Rattle.model.specs.Refusal.{named, Written}
 use Rattle.model.proofs.NamedLaws.{named_number}
 use Rattle.model.specs.declared.Opened.{Opened}
 use Rattle.model.specs.declared.Answer.{Answer}
@@ -61,15 +61,15 @@ run_one = told_one run_told back same
     same (NoPlan total) = refl
     same (Refused r) = ap Refused (named_number r)
 
-pub write_one : (a c : Result ℕ Refusal) → write_told a ≡ write_told c → a ≡ c
+pub write_one : (a c : Written) → write_told a ≡ write_told c → a ≡ c
 unfolding write_told
 write_one = told_one write_told back same
   where
-    back : Outcome ℕ → Result ℕ Refusal
+    back : Outcome ℕ → Written
     back (accept count) = Ok count
     back (refuse k) = Err (named k)
 
-    same : (a : Result ℕ Refusal) → back (write_told a) ≡ a
+    same : (a : Written) → back (write_told a) ≡ a
     same (Ok count) = refl
     same (Err r) = ap Err (named_number r)
 
@@ -116,20 +116,20 @@ run_pinned s budget list r r' after after' h h' = by (run_refusal s budget (leng
 pub run_keeps : (s : Search) (budget : ℕ) (list : List ℕ) (r : Ran) (after : List ℕ) → RunLeaves s budget list r after → (r.search.batch ≡ s.batch) × (sound r.search ≡ sound s)
 run_keeps s budget list r after h = (h.batch, h.sound_kept)
 
-pub writing_pinned : (text : Outcome (List ℕ)) (buffer : List ℕ) (w w' : Result ℕ Refusal) (after after' : List ℕ) → WritingLeaves text buffer w after → WritingLeaves text buffer w' after' → ◌≡◌ {A = Result ℕ Refusal × List ℕ} (w, after) (w', after')
+pub writing_pinned : (text : Outcome (List ℕ)) (buffer : List ℕ) (w w' : Written) (after after' : List ℕ) → WritingLeaves text buffer w after → WritingLeaves text buffer w' after' → ◌≡◌ {A = Written × List ℕ} (w, after) (w', after')
 writing_pinned text buffer w w' after after' h h' = by text refl
   where
-    whole : (told : Outcome ℕ) (left : List ℕ) → (write_told w ≡ told) × (after ≡ left) → (write_told w' ≡ told) × (after' ≡ left) → ◌≡◌ {A = Result ℕ Refusal × List ℕ} (w, after) (w', after')
+    whole : (told : Outcome ℕ) (left : List ℕ) → (write_told w ≡ told) × (after ≡ left) → (write_told w' ≡ told) × (after' ≡ left) → ◌≡◌ {A = Written × List ℕ} (w, after) (w', after')
     whole told left (p, q) (p', q') =
         let answers = write_one w w' (p ∙ sym p') in
         let lists = q ∙ sym q' in
         λ i. (answers i, lists i)
 
-    by : (o : Outcome (List ℕ)) → text ≡ o → ◌≡◌ {A = Result ℕ Refusal × List ℕ} (w, after) (w', after')
+    by : (o : Outcome (List ℕ)) → text ≡ o → ◌≡◌ {A = Written × List ℕ} (w, after) (w', after')
     by (refuse k) e = whole _ _ (h.refused k e) (h'.refused k e)
     by (accept t) e = room (dec_le (length t) (length buffer))
       where
-        room : Dec (length t ≤ length buffer) → ◌≡◌ {A = Result ℕ Refusal × List ℕ} (w, after) (w', after')
+        room : Dec (length t ≤ length buffer) → ◌≡◌ {A = Written × List ℕ} (w, after) (w', after')
         room (yes p) = whole _ _ (h.fits t e p) (h'.fits t e p)
         room (no p) = let q : length buffer < length t = omega arith in whole _ _ (h.long t e q) (h'.long t e q)
 

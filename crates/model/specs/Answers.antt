@@ -7,7 +7,7 @@ use Rattle.model.specs.declared.Answer.{Answer}
 use Rattle.model.specs.declared.Answer.TheVariants.{Spent, Plan, NoPlan, Refused}
 use Rattle.std.specs.Prelude.{Result, Ok, Err}
 use Rattle.model.specs.declared.refusal.Refusal.{Refusal}
-use Rattle.model.specs.Refusal.{number}
+use Rattle.model.specs.Refusal.{number, Written, Judgement}
 use Rattle.model.specs.Common.{Outcome, refuse, accept}
 
 -- a run: spent with the total, a plan with latency and total, or no plan with the total
@@ -39,12 +39,12 @@ open_told (Ok u) = accept u
 open_told (Err r) = refuse (number r)
 
 -- writing: the number of bytes, or refused
-unfoldable pub write_told : Result ℕ Refusal → Outcome ℕ
+unfoldable pub write_told : Written → Outcome ℕ
 write_told (Ok count) = accept count
 write_told (Err r) = refuse (number r)
 
 -- judging: passed, or refused
-unfoldable pub judge_told : Result (Unit {0}) Refusal → Outcome (Unit {0})
+unfoldable pub judge_told : Judgement → Outcome (Unit {0})
 judge_told (Ok u) = accept u
 judge_told (Err r) = refuse (number r)
 

@@ -5,8 +5,7 @@ use Rattle.model.specs.declared.Batch.{Batch}
 use Rattle.model.specs.declared.Search.{Search}
 use Rattle.model.specs.declared.Ran.{Ran}
 use Rattle.model.specs.declared.Opened.{Opened}
-use Rattle.std.specs.Prelude.{Result}
-use Rattle.model.specs.declared.refusal.Refusal.{Refusal}
+use Rattle.model.specs.Refusal.{Written}
 use Rattle.model.specs.Common.{Outcome, refuse, accept}
 use Rattle.model.specs.Plan.{Valid, Shortest, latency}
 use Rattle.model.specs.Search.{fresh_search, nodes}
@@ -38,7 +37,7 @@ pub record RunLeaves (s : Search) (budget : ℕ) (list : List ℕ) (r : Ran) (li
 
 -- a refused text, and one longer than the buffer, leave the buffer; one that fits fills the buffer's first bytes, the answer is their number, and
 -- the rest is unchanged
-pub record WritingLeaves (text : Outcome (List ℕ)) (buffer : List ℕ) (w : Result ℕ Refusal) (buffer' : List ℕ) : Type 0 where
+pub record WritingLeaves (text : Outcome (List ℕ)) (buffer : List ℕ) (w : Written) (buffer' : List ℕ) : Type 0 where
   pub refused : (k : ℕ) → text ≡ refuse k → (write_told w ≡ refuse k) × (buffer' ≡ buffer)
   pub long : (t : List ℕ) → text ≡ accept t → length buffer < length t → (write_told w ≡ refuse 16) × (buffer' ≡ buffer)
   pub fits : (t : List ℕ) → text ≡ accept t → length t ≤ length buffer → (write_told w ≡ accept (length t)) × (buffer' ≡ t ++ drop (length t) buffer)

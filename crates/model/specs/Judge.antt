@@ -7,9 +7,8 @@ use Rattle.std.specs.Int.Signed.{le_z}
 use Rattle.std.specs.Prelude.{Some}
 use Rattle.model.specs.declared.Batch.{Batch}
 use Rattle.model.specs.declared.Delay.{Delay}
-use Rattle.std.specs.Prelude.{Result, Ok, Err}
-use Rattle.model.specs.declared.refusal.Refusal.{Refusal}
-use Rattle.model.specs.Refusal.{named}
+use Rattle.std.specs.Prelude.{Ok, Err}
+use Rattle.model.specs.Refusal.{named, Judgement}
 use Rattle.model.specs.Common.{between, count, all, keep, joined, is_empty, is_some, Outcome, refuse, accept, ◌>>=◌, require}
 use Rattle.model.specs.Batch.{delays_of, earliest, latest}
 use Rattle.model.specs.Plan.{start, Valid, latency}
@@ -131,9 +130,9 @@ judge file text = do
   b ← open_file file
   judge_text b text
 
-unfoldable pub judged_as : Outcome (Unit {0}) → Result (Unit {0}) Refusal
+unfoldable pub judged_as : Outcome (Unit {0}) → Judgement
 judged_as (accept u) = Ok u
 judged_as (refuse k) = Err (named k)
 
-unfoldable pub judged : List ℕ → List ℕ → Result (Unit {0}) Refusal
+unfoldable pub judged : List ℕ → List ℕ → Judgement
 judged file text = judged_as (judge file text)

@@ -41,3 +41,10 @@ named k = get_or refusals (k - 1) refusal.Line
 unfoldable pub told : {A : Type 0} → Result A Refusal → Outcome A
 told (Ok a) = accept a
 told (Err r) = refuse (number r)
+
+-- what writing answers: the number of bytes; and judging a plan text
+abbrev pub Written : Type 0
+Written = Result ℕ Refusal
+
+abbrev pub Judgement : Type 0
+Judgement = Result (Unit {0}) Refusal

@@ -3,9 +3,8 @@ use Rattle.std.specs.Prelude.{ℕ, List, [], ◌∷◌, ◌++◌, length, drop, 
 use Rattle.model.specs.Best.{Best}
 use Rattle.std.specs.Prelude.{None, Some}
 use Rattle.model.specs.declared.Search.{Search}
-use Rattle.std.specs.Prelude.{Result, Ok, Err}
-use Rattle.model.specs.declared.refusal.Refusal.{Refusal}
-use Rattle.model.specs.Refusal.{named}
+use Rattle.std.specs.Prelude.{Ok, Err}
+use Rattle.model.specs.Refusal.{named, Written}
 use Rattle.model.specs.Common.{count, joined, Outcome, refuse, accept, ◌>>=◌, require}
 use Rattle.model.specs.Plan.{start}
 use Rattle.model.specs.Line.{line, two, four}
@@ -44,9 +43,9 @@ fitting text room = do
   _ ← require 16 (leb (length t) room)
   accept t
 
-unfoldable pub written_as : Outcome (List ℕ) → List ℕ → Result ℕ Refusal × List ℕ
+unfoldable pub written_as : Outcome (List ℕ) → List ℕ → Written × List ℕ
 written_as (refuse k) buffer = (Err (named k), buffer)
 written_as (accept t) buffer = (Ok (length t), t ++ drop (length t) buffer)
 
-unfoldable pub written : Outcome (List ℕ) → List ℕ → Result ℕ Refusal × List ℕ
+unfoldable pub written : Outcome (List ℕ) → List ℕ → Written × List ℕ
 written text buffer = written_as (fitting text (length buffer)) buffer

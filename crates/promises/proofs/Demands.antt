@@ -9,8 +9,8 @@ use Rattle.model.specs.declared.Batch.{Batch}
 use Rattle.model.specs.declared.Search.{Search}
 use Rattle.model.specs.declared.Opened.{Opened}
 use Rattle.model.specs.declared.Ran.{Ran}
-use Rattle.model.specs.declared.Written.{Written}
-use Rattle.model.specs.Common.{Outcome, accept}
+use Rattle.model.specs.Refusal.{Written}
+use Rattle.model.specs.Common.{Outcome, refuse, accept}
 use Rattle.model.specs.Search.{search_of, fresh_search}
 use Rattle.model.specs.Format.{BatchFile}
 use Rattle.model.specs.Open.{opened}
@@ -20,6 +20,7 @@ use Rattle.model.specs.Answers.{plan, run_told, open_told, best_told}
 use Rattle.model.specs.Calls.{Call, call, after, granted}
 use Rattle.model.specs.Demands.{OpeningLeaves, RunLeaves, WritingLeaves, PlanWith, Reached}
 use Rattle.model.proofs.EndLaws.{ends_unique}
+use Rattle.model.proofs.RefusalLaws.{Given, plan_given, batch_given}
 use Rattle.model.proofs.LeaveLaws.{opening_leaves, running_leaves, writing_leaves}
 use Rattle.model.proofs.OpenLaws.{after_append, N, file_end, after_reached, after_refused, after_answered, written_back, best_plans, answer_plans, text_plans, opens, yields}
 use Rattle.promises.specs.Demands.{Called, none, more, Demand1, Demand2, LastCall, Demand3, Demands}
@@ -32,16 +33,16 @@ called_after (more {t} {c} {cs} r list' e h) = called_after h ∙ ap (λ (x : Ra
 
 -- ---- demand 1
 
-pub writing : (text : Outcome (List ℕ)) (buffer : List ℕ) (w : Written) (buffer' : List ℕ) → (w, buffer') ≡ written text buffer → WritingLeaves text buffer w buffer'
-writing text buffer w buffer' e = subst (λ (x : Written × List ℕ). WritingLeaves text buffer x.0 x.1) (sym e) (writing_leaves text buffer)
+pub writing : (text : Outcome (List ℕ)) → ((k : ℕ) → text ≡ refuse k → Given k) → (buffer : List ℕ) (w : Written) (buffer' : List ℕ) → (w, buffer') ≡ written text buffer → WritingLeaves text buffer w buffer'
+writing text given buffer w buffer' e = subst (λ (x : Written × List ℕ). WritingLeaves text buffer x.0 x.1) (sym e) (writing_leaves text given buffer)
 
 pub demand_1 : Demand1
 demand_1 =
     record {
       opening = λ file o e. subst (OpeningLeaves file) (sym e) (opening_leaves file);
       running = λ s budget list r list' e. subst (λ (x : Ran × List ℕ). RunLeaves s budget list x.0 x.1) (sym e) (running_leaves s budget list);
-      plan_writing = λ s. writing (plan_text s);
-      batch_writing = λ s. writing (batch_text s);
+      plan_writing = λ s. writing (plan_text s) (plan_given s);
+      batch_writing = λ s. writing (batch_text s) (batch_given s);
     }
 
 -- ---- demand 2
@@ -53,13 +54,13 @@ demand_2 file o e =
       opens = subst (λ (o : Opened). (open_told o.answer ≡ accept tt) ↔ ((b : Batch) × BatchFile file b)) (sym e) (opens file);
       yields = fresh;
       written_back = λ b f cs s h buffer w buffer' room m.
-          (writing (batch_text s) buffer w buffer' m).fits file (ap batch_text (at b f cs s h) ∙ written_back file b f cs) room;
+          (writing (batch_text s) (batch_given s) buffer w buffer' m).fits file (ap batch_text (at b f cs s h) ∙ written_back file b f cs) room;
       best_plans = λ b f cs s h. subst (λ (x : Search). (l : ℕ) → best_told x.best ≡ some l → PlanWith b x.starts l) (sym (at b f cs s h)) (best_plans file b f cs);
       answer_plans = λ b f cs s h c r list' m.
           let z = m ∙ ap (λ (x : Search). ran x c.budget c.starts) (at b f cs s h) in
           subst (λ (x : Ran × List ℕ). (l t : ℕ) → run_told x.0.answer ≡ accept (plan l t) → PlanWith b x.1 l) (sym z) (answer_plans file b f cs c);
       text_plans = λ b f cs s h e buffer w buffer' room m.
-          (writing (plan_text s) buffer w buffer' m).fits _ (text b f cs s h e) room;
+          (writing (plan_text s) (plan_given s) buffer w buffer' m).fits _ (text b f cs s h e) room;
     }
   where
     fresh : (b : Batch) → BatchFile file b → o.search ≡ fresh_search b

@@ -10,7 +10,7 @@ use Rattle.model.specs.declared.Batch.{Batch}
 use Rattle.model.specs.declared.Search.{Search}
 use Rattle.model.specs.declared.Opened.{Opened}
 use Rattle.model.specs.declared.Ran.{Ran}
-use Rattle.model.specs.declared.Written.{Written}
+use Rattle.model.specs.Refusal.{Written}
 use Rattle.model.specs.Common.{Outcome, accept}
 use Rattle.model.specs.Limits.{most_ticks}
 use Rattle.model.specs.Batch.{ticks}

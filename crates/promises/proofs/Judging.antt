@@ -12,8 +12,7 @@ use lib.Seq.{take_at}
 use Rattle.model.specs.declared.Batch.{Batch}
 use Rattle.model.specs.declared.Search.{Search}
 use Rattle.model.specs.declared.Opened.{Opened}
-use Rattle.model.specs.declared.Written.{Written}
-use Rattle.model.specs.declared.Judgement.{Judgement}
+use Rattle.model.specs.Refusal.{Written, Judgement, number, named}
 use Rattle.model.specs.Common.{Outcome, refuse, accept}
 use Rattle.model.specs.Search.{fresh_search}
 use Rattle.model.specs.Format.{BatchFile}
@@ -25,6 +24,7 @@ use Rattle.model.specs.Demands.{WritingLeaves}
 use Rattle.model.specs.Judge.{RightText, Claim, Claims, RightJobs, RightPlan, read_claim, jobs_right, plan_right, judge, judged_as, judged}
 use Rattle.model.proofs.BoolLaws.{apart}
 use Rattle.model.proofs.OutcomeLaws.{refused, accept_eq}
+use Rattle.model.proofs.RefusalLaws.{Given, given_number, open_given, judge_given, plan_given, open_refusals, judge_refusals}
 use Rattle.model.proofs.OpenLaws.{open_format, opens, yields}
 use Rattle.model.proofs.ClaimLaws.{claim_iff}
 use Rattle.model.proofs.JudgeLaws.{jobs_iff, plan_iff, judge_refused, judge_form, judge_jobs, judge_plan, judge_passes, judge_right, plan_right_lem}
@@ -33,10 +33,13 @@ use Rattle.promises.proofs.Demands.{called_after, writing, demands}
 use Rattle.promises.proofs.Pins.{called_there, every_plan_told}
 
 -- the answer tells what the definition gives
-told : (o : Outcome (Unit {0})) → judge_told (judged_as o) ≡ o
+told : (o : Outcome (Unit {0})) → ((k : ℕ) → o ≡ refuse k → Given k) → judge_told (judged_as o) ≡ o
 unfolding judge_told judged_as
-told (refuse k) = refl
-told (accept u) = refl
+told (refuse k) given = ap refuse (given_number k (given k refl))
+told (accept u) given = refl
+
+told_judged : (file text : List ℕ) → judge_told (judged_as (judge file text)) ≡ judge file text
+told_judged file text = told (judge file text) (λ k e. judge_given (judge_refusals file text k e))
 
 -- a refused opening tells the number
 open_told_lem : (file : List ℕ) (k : ℕ) → open_told (opened file).answer ≡ refuse k → open_file file ≡ refuse k
@@ -44,7 +47,7 @@ unfolding opened opened_as open_told
 open_told_lem file k e = go (open_file file) refl e
   where
     go : (x : Outcome Batch) → open_file file ≡ x → open_told (opened_as x).answer ≡ refuse k → open_file file ≡ refuse k
-    go (refuse j) h z = let y : j ≡ k = cc in h ∙ ap refuse y
+    go (refuse j) h z = let y : number (named j) ≡ k = cc in h ∙ ap refuse (sym (given_number j (open_given (open_refusals file j h))) ∙ y)
     go (accept b) h z = refused (sym z)
 
 -- ---- what is answered
@@ -52,7 +55,7 @@ open_told_lem file k e = go (open_file file) refl e
 judging_of : (file text : List ℕ) → Judging file (opened file) text (judged file text)
 unfolding judged
 judging_of file text =
-    let is = told (judge file text) in
+    let is = told_judged file text in
     record {
       passes = (λ e. (judge_right file text).0 (sym is ∙ e), λ r. is ∙ (judge_right file text).1 r);
       first = λ k e. is ∙ judge_refused file text k (open_told_lem file k e);
@@ -64,12 +67,12 @@ judging_of file text =
 -- ---- the finished plan
 
 -- the bytes that were written are the text
-written_bytes : (text : Outcome (List ℕ)) (buffer : List ℕ) (w : Written) (buffer' : List ℕ) → (w, buffer') ≡ written text buffer → (k : ℕ) → write_told w ≡ accept k
+written_bytes : (text : Outcome (List ℕ)) → ((k : ℕ) → text ≡ refuse k → Given k) → (buffer : List ℕ) (w : Written) (buffer' : List ℕ) → (w, buffer') ≡ written text buffer → (k : ℕ) → write_told w ≡ accept k
     → (x : List ℕ) × (text ≡ accept x) × (take k buffer' ≡ x)
-written_bytes text buffer w buffer' e k h = by text refl
+written_bytes text given buffer w buffer' e k h = by text refl
   where
     leaves : WritingLeaves text buffer w buffer'
-    leaves = writing text buffer w buffer' e
+    leaves = writing text given buffer w buffer' e
 
     fitting : (x : List ℕ) → text ≡ accept x → Dec (length buffer < length x) → take k buffer' ≡ x
     fitting x is (yes long) = refused (sym (leaves.long x is long).0 ∙ h)
@@ -92,9 +95,9 @@ q1 =
           let (b, f) = (opens file).0 (ap (λ (x : Opened). open_told x.answer) (sym e) ∙ yes) in
           let fresh : o.search ≡ fresh_search b = ap (λ (x : Opened). x.search) e ∙ yields file b f in
           let at : s ≡ after (fresh_search b) cs = called_after h ∙ ap (λ (x : Search). after x cs) fresh in
-          let (text, is, bytes) = written_bytes (plan_text s) buffer w buffer' m k fits in
+          let (text, is, bytes) = written_bytes (plan_text s) (plan_given s) buffer w buffer' m k fits in
           let right : RightText b text = plan_right_lem file b f cs l (ap (λ (x : Search). best_told x.best) (sym at) ∙ best) text (ap plan_text (sym at) ∙ is) in
-          ap judge_told (z ∙ ap (judged file) bytes) ∙ told (judge file text) ∙ (judge_right file text).1 (b, f, right);
+          ap judge_told (z ∙ ap (judged file) bytes) ∙ told_judged file text ∙ (judge_right file text).1 (b, f, right);
     }
 
 -- ---- pinned
@@ -117,7 +120,7 @@ judging_one file text j h = by (open_file file) refl
     read b f (accept c) e = named b f c ((claim_iff text c).0 e) (jobs_right b c) refl
 
     by : (o : Outcome Batch) → open_file file ≡ o → judge_told j ≡ judge file text
-    by (refuse k) e = h.first k (ap (λ (o : Outcome Batch). open_told (opened_as o).answer) e) ∙ sym (judge_refused file text k e)
+    by (refuse k) e = h.first k (ap (λ (o : Outcome Batch). open_told (opened_as o).answer) e ∙ ap refuse (given_number k (open_given (open_refusals file k e)))) ∙ sym (judge_refused file text k e)
     by (accept b) e = read b ((open_format file b).0 e) (read_claim text) refl
 
 -- and what is passed is right

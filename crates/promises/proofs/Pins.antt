@@ -13,7 +13,7 @@ use Rattle.model.specs.declared.Batch.{Batch}
 use Rattle.model.specs.declared.Search.{Search}
 use Rattle.model.specs.declared.Opened.{Opened}
 use Rattle.model.specs.declared.Ran.{Ran}
-use Rattle.model.specs.declared.Written.{Written}
+use Rattle.model.specs.Refusal.{Written}
 use Rattle.model.specs.Common.{refuse, accept}
 use Rattle.model.specs.Search.{node_limit}
 use Rattle.model.specs.Format.{BatchFile}

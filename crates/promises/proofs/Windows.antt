@@ -24,6 +24,7 @@ use Rattle.model.specs.Run.{run_refusal, ran}
 use Rattle.model.specs.Answers.{plan, no_plan, run_told, open_told, best_told}
 use Rattle.model.specs.Calls.{Call, call, after}
 use Rattle.model.proofs.OutcomeLaws.{refuse_as, refused}
+use Rattle.model.proofs.RefusalLaws.{given_number, open_given, open_refusals}
 use Rattle.model.proofs.OpenLaws.{refused_10}
 use Rattle.model.proofs.FirstLaws.{open_first, open_second, open_3, refused_8, refused_20, search01}
 use Rattle.promises.specs.Demands.{Called}
@@ -34,15 +35,17 @@ use Rattle.promises.proofs.Finish.{form_iff}
 use Rattle.promises.proofs.WindowRuns.{first_at, starts_at_lem}
 
 -- what opening refuses with is what it tells
-told_refused : (o : Outcome Batch) (k : ℕ) → (open_told (opened_as o).answer ≡ refuse k) ↔ (o ≡ refuse k)
+told_refused : (file : List ℕ) (o : Outcome Batch) → open_file file ≡ o → (k : ℕ) → (open_told (opened_as o).answer ≡ refuse k) ↔ (o ≡ refuse k)
 unfolding opened_as open_told
-told_refused (refuse j) k = (λ e. refuse_as e, λ e. refuse_as e)
-told_refused (accept b) k = (λ e. refused (sym e), λ e. refused (sym e))
+told_refused file (refuse j) is k =
+    let z = given_number j (open_given (open_refusals file j is)) in
+    (λ e. refuse_as (ap refuse (sym z) ∙ e), λ e. ap refuse z ∙ refuse_as e)
+told_refused file (accept b) is k = (λ e. refused (sym e), λ e. refused (sym e))
 
 module _ (file : List ℕ) where
   pub told : (k : ℕ) → (open_told (opened file).answer ≡ refuse k) ↔ (open_file file ≡ refuse k)
   unfolding opened
-  told = told_refused (open_file file)
+  told = told_refused file (open_file file) refl
 
   numbers_of : Numbers file (opened file)
   numbers_of =
@@ -79,7 +82,7 @@ module _ (q : Q4) where
   unfolding opened_as open_told
   every_second file h e =
       let z = (open_second file h).0 in
-      let told = ap (λ (o : Opened). open_told o.answer) e ∙ ap (λ (o : Outcome Batch). open_told (opened_as o).answer) z in
+      let told = ap (λ (o : Opened). open_told o.answer) e ∙ ap (λ (o : Outcome Batch). open_told (opened_as o).answer) z ∙ ap refuse (given_number 3 (omega arith, omega arith)) in
       (((q.numbers file (opened file) refl).three 2 (omega arith) h).0 told).1 refl
 
   -- and every run that is not refused, from every sound record of edition 01, is 01's

@@ -6,8 +6,7 @@ use Rattle.model.specs.declared.Batch.{Batch}
 use Rattle.model.specs.declared.Search.{Search}
 use Rattle.model.specs.declared.Opened.{Opened}
 use Rattle.model.specs.declared.Ran.{Ran}
-use Rattle.model.specs.declared.Written.{Written}
-use Rattle.model.specs.declared.Judgement.{Judgement}
+use Rattle.model.specs.Refusal.{Written, Judgement}
 use Rattle.model.specs.Common.{accept}
 use Rattle.model.specs.Finish.{FirstOver}
 use Rattle.model.specs.Padded.{Padded, in_batch}

@@ -5,8 +5,7 @@ use Rattle.std.proofs.Math.Option.{some}
 use Rattle.model.specs.declared.Batch.{Batch}
 use Rattle.model.specs.declared.Search.{Search}
 use Rattle.model.specs.declared.Opened.{Opened}
-use Rattle.model.specs.declared.Written.{Written}
-use Rattle.model.specs.declared.Judgement.{Judgement}
+use Rattle.model.specs.Refusal.{Written, Judgement}
 use Rattle.model.specs.Common.{refuse, accept}
 use Rattle.model.specs.Format.{BatchFile}
 use Rattle.model.specs.Open.{opened}
