@@ -17,6 +17,7 @@ use Rattle.model.specs.Limits.{most_budget, most_total}
 use Rattle.model.specs.Clash.{clashes}
 use Rattle.model.specs.Search.{nodes, nodes_on}
 use Rattle.model.specs.Sound.{sound}
+use Rattle.model.specs.Refusal.{named}
 use Rattle.model.specs.Run.{run_refusal, answer_of, starts_after, answered, ran_as, ran}
 use Rattle.model.proofs.LeaveLaws.{nodes_batch}
 use Rattle.model.proofs.SoundLaws.{fits, record_passes}
@@ -36,12 +37,12 @@ module _ (s : Search) (budget : ℕ) (list : List ℕ) where
   tested p q r t e f g h = rw (← e, ← f, ← g, ← h)
 
   -- a refused run leaves the record and the list
-  refused : (k : ℕ) → run_refusal s budget (length list) ≡ refuse k → (record { answer = Refused k; search = s }, list) ≡ ran s budget list
+  refused : (k : ℕ) → run_refusal s budget (length list) ≡ refuse k → (record { answer = Refused (named k); search = s }, list) ≡ ran s budget list
   unfolding ran ran_as
   refused k e = sym (ap (λ (o : Outcome (Unit {0})). ran_as o s budget list) e)
 
   abbrev LeftAs : ℕ → Type 0
-  LeftAs k = ◌≡◌ {A = Ran × List ℕ} (record { answer = Refused k; search = s }, list) (ran s budget list)
+  LeftAs k = ◌≡◌ {A = Ran × List ℕ} (record { answer = Refused (named k); search = s }, list) (ran s budget list)
 
   pub ran_11 : most_budget < budget → LeftAs 11
   unfolding tests ◌>>=◌ require
@@ -71,7 +72,7 @@ module _ (s : Search) (budget : ℕ) (list : List ℕ) where
       ∙ ap (λ (x : Search). answered x list) a ∙ sym (ap (λ (o : Outcome (Unit {0})). ran_as o s budget list) go)
 
 -- a record whose run leaves it as it is
-pub left_as : (s : Search) (budget k : ℕ) (list : List ℕ) (r : Ran) → r ≡ record { answer = Refused k; search = s } → ◌≡◌ {A = Ran × List ℕ} (record { answer = Refused k; search = s }, list) (ran s budget list) → ◌≡◌ {A = Ran × List ℕ} (r, list) (ran s budget list)
+pub left_as : (s : Search) (budget k : ℕ) (list : List ℕ) (r : Ran) → r ≡ record { answer = Refused (named k); search = s } → ◌≡◌ {A = Ran × List ℕ} (record { answer = Refused (named k); search = s }, list) (ran s budget list) → ◌≡◌ {A = Ran × List ℕ} (r, list) (ran s budget list)
 left_as s budget k list r e h = ap (λ (x : Ran). (x, list)) e ∙ h
 
 -- ---- the limit on total

@@ -1,6 +1,5 @@
 // A run: refusals 11 to 14 in turn, then nodes until the search has ended or the budget is used, and the answer.
 ghost use Rattle.std.specs.Prelude.{◌≡◌, true, false, not, ◌||◌, leb, length, ◌+◌, ◌≤◌};
-ghost use Rattle.model.specs.Refusal.{number};
 ghost use Rattle.model.specs.Search.{search_of, nodes};
 ghost use Rattle.model.specs.Sound.{sound};
 ghost use Rattle.model.specs.Run.{ran};
@@ -149,12 +148,12 @@ fn after_run(search: Search, examined: &Examined, budget: u32) -> Search
     advance(&search, examined, budget)
 }
 
-// A refusal gives only its number, and the record unchanged. The number is the answer's: document 01 names it.
+// A refusal leaves the record unchanged.
 fn refused(search: Search, refusal: Refusal) -> Ran
-    ensures { result ≡ record { answer = Answer.Refused (number refusal); search = search } }
+    ensures { result ≡ record { answer = Answer.Refused refusal; search = search } }
 {
     Ran {
-        answer: Answer::Refused(refusal.number()),
+        answer: Answer::Refused(refusal),
         search,
     }
 }

@@ -1,4 +1,3 @@
--- What the contracts cite: a writer's answer, the plan text where there is a plan, and the bounds that the batch text needs.
-pub mod Answer
+-- What the contracts cite: the plan text where there is a plan, and the bounds that the batch text needs.
 pub mod Plan
 pub mod Bounded

@@ -3,23 +3,14 @@ ghost use Rattle.std.specs.Prelude.{◌≡◌};
 ghost use Rattle.model.specs.Common.{accept};
 ghost use Rattle.model.specs.Format.{batch_file};
 ghost use Rattle.model.specs.Text.{batch_text, written};
-ghost use Rattle.writing.specs.Answer.{answer_of};
 ghost use Rattle.writing.specs.Bounded.{Bounded};
 
-use crate::answer::answer_of;
 use crate::batch::{batch_length, put_batch};
-use model::{Batch, Refusal, Search, Written};
+use model::{Batch, Refusal, Search};
 
 // The batch text of a record.
-pub fn write_batch(search: Search, buffer: &mut [u8]) -> Written
+pub fn write_batch(search: Search, buffer: &mut [u8]) -> Result<usize, Refusal>
     ensures { (result, buffer.new) ≡ written (batch_text search) buffer.old }
-{
-    answer_of(write_sound(search, buffer))
-}
-
-// The text of a sound record.
-fn write_sound(search: Search, buffer: &mut [u8]) -> Result<usize, Refusal>
-    ensures { (answer_of result, buffer.new) ≡ written (batch_text search) buffer.old }
 {
     if !soundness::is_sound(search) {
         return Err(Refusal::Unsound);
@@ -30,7 +21,7 @@ fn write_sound(search: Search, buffer: &mut [u8]) -> Result<usize, Refusal>
 // The text of a batch whose counts stay within its arrays.
 fn write_bounded(batch: Batch, buffer: &mut [u8]) -> Result<usize, Refusal>
     requires { Bounded batch }
-    ensures { (answer_of result, buffer.new) ≡ written (accept (batch_file batch)) buffer.old }
+    ensures { (result, buffer.new) ≡ written (accept (batch_file batch)) buffer.old }
 {
     let size = batch_length(batch);
     if buffer.len() < size {

@@ -2,7 +2,6 @@
 // the text does not fit.
 #![tactic(auto)]
 
-mod answer;
 mod batch;
 mod batch_text;
 mod plan;

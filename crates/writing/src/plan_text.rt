@@ -4,24 +4,15 @@ ghost use Rattle.model.specs.Common.{accept};
 ghost use Rattle.model.specs.Limits.{most_jobs};
 ghost use Rattle.model.specs.Text.{plan_lines, plan_text, written};
 ghost use Rattle.frame_put.specs.Lines.{no_plan_line};
-ghost use Rattle.writing.specs.Answer.{answer_of};
 ghost use Rattle.writing.specs.Plan.{found_lines};
 
-use crate::answer::answer_of;
 use crate::plan::put_plan;
 use frame_put::put_no_plan;
-use model::{Refusal, Search, Written};
+use model::{Refusal, Search};
 
 // The plan text of a record.
-pub fn write_plan(search: Search, buffer: &mut [u8]) -> Written
+pub fn write_plan(search: Search, buffer: &mut [u8]) -> Result<usize, Refusal>
     ensures { (result, buffer.new) ≡ written (plan_text search) buffer.old }
-{
-    answer_of(write_sound(search, buffer))
-}
-
-// The text of a sound record whose search has ended.
-fn write_sound(search: Search, buffer: &mut [u8]) -> Result<usize, Refusal>
-    ensures { (answer_of result, buffer.new) ≡ written (plan_text search) buffer.old }
 {
     if !soundness::is_sound(search) {
         return Err(Refusal::Unsound);
@@ -47,7 +38,7 @@ fn write_ended(
     buffer: &mut [u8],
 ) -> Result<usize, Refusal>
     requires { n ≤ most_jobs }
-    ensures { (answer_of result, buffer.new) ≡ written (accept (plan_lines best n starts total)) buffer.old }
+    ensures { (result, buffer.new) ≡ written (accept (plan_lines best n starts total)) buffer.old }
 {
     match best {
         None => write_no_plan(total, buffer),
@@ -64,7 +55,7 @@ fn write_found(
     buffer: &mut [u8],
 ) -> Result<usize, Refusal>
     requires { n ≤ most_jobs }
-    ensures { (answer_of result, buffer.new) ≡ written (accept (found_lines n latency starts total)) buffer.old }
+    ensures { (result, buffer.new) ≡ written (accept (found_lines n latency starts total)) buffer.old }
 {
     let size = 19 + 9 * usize::from(n);
     if buffer.len() < size {
@@ -75,7 +66,7 @@ fn write_found(
 
 // The text where there is none.
 fn write_no_plan(total: u32, buffer: &mut [u8]) -> Result<usize, Refusal>
-    ensures { (answer_of result, buffer.new) ≡ written (accept (no_plan_line total)) buffer.old }
+    ensures { (result, buffer.new) ≡ written (accept (no_plan_line total)) buffer.old }
 {
     if buffer.len() < 11 {
         return Err(Refusal::ShortBuffer);

@@ -1,10 +1,10 @@
--- `write_sound` asks 12, then 15, and then writes the text of an ended search.
+-- `write_plan` asks 12, then 15, and then writes the text of an ended search.
 use mathlib.Core.Path.{refl, sym, ◌∙◌}
 use Rattle.model.proofs.BoolLaws.{passes, fails}
 use Rattle.model.specs.declared.refusal.Refusal.TheVariants.{Unsound, Unended}
 use Rattle.writing.proofs.Answers.{text_as_lem, text_refused}
 use Rattle.writing.proofs.Refusals.{sound_bounded, plan_unsound, plan_open, plan_ended}
-use Rattle.writing.proofs.plan_text.write_sound.Goals as goal
+use Rattle.writing.proofs.plan_text.write_plan.Goals as goal
 
 pub returns-then-not-is_sound : goal.returns-then-not-is_sound
 returns-then-not-is_sound c = text_refused _ Unsound (plan_unsound c.args.search (sym c.is_sound.ensures ∙ c.if-not-is_sound.true))
