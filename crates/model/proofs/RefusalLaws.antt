@@ -268,17 +268,17 @@ pub judge_given : {k : ℕ} → JudgeNumber k → Given k
 judge_given (inl h) = open_given h
 judge_given (inr h) = (omega (arith, h.0), omega (arith, h.1))
 
-pub plan_given : (s : Search) (k : ℕ) → plan_text s ≡ refuse k → Given k
-plan_given s k e = by ((only_plan s).number k e)
-  where
-    by : PlanNumber k → Given k
-    by (inl z) = (omega (arith, z), omega (arith, z))
-    by (inr (inl z)) = (omega (arith, z), omega (arith, z))
-    by (inr (inr z)) = (omega (arith, z), omega (arith, z))
+pub plan_given : {k : ℕ} → PlanNumber k → Given k
+plan_given (inl z) = (omega (arith, z), omega (arith, z))
+plan_given (inr (inl z)) = (omega (arith, z), omega (arith, z))
+plan_given (inr (inr z)) = (omega (arith, z), omega (arith, z))
 
-pub batch_given : (s : Search) (k : ℕ) → batch_text s ≡ refuse k → Given k
-batch_given s k e = by ((only_batch s).number k e)
-  where
-    by : BatchNumber k → Given k
-    by (inl z) = (omega (arith, z), omega (arith, z))
-    by (inr z) = (omega (arith, z), omega (arith, z))
+pub batch_given : {k : ℕ} → BatchNumber k → Given k
+batch_given (inl z) = (omega (arith, z), omega (arith, z))
+batch_given (inr z) = (omega (arith, z), omega (arith, z))
+
+pub plan_text_given : (s : Search) (k : ℕ) → plan_text s ≡ refuse k → Given k
+plan_text_given s k e = plan_given ((only_plan s).number k e)
+
+pub batch_text_given : (s : Search) (k : ℕ) → batch_text s ≡ refuse k → Given k
+batch_text_given s k e = batch_given ((only_batch s).number k e)

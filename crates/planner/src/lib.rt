@@ -7,7 +7,7 @@ ghost use Rattle.model.specs.Run.{ran};
 ghost use Rattle.model.specs.Text.{plan_text, batch_text, written};
 ghost use Rattle.model.specs.Judge.{judged};
 
-use model::{Judgement, Opened, Ran, Search, Written};
+use model::{Opened, Ran, Refusal, Search};
 
 // Opens a batch file: the fresh search of its batch, or a refusal, 1 to 10 or 20, and the blank record.
 pub fn open(file: &[u8]) -> Opened
@@ -25,14 +25,14 @@ pub fn run(search: Search, budget: u32, starts: &mut [u16]) -> Ran
 }
 
 // The plan text of an ended search into a buffer: the number of bytes, or a refusal, 12, 15 or 16, that leaves the buffer as it was.
-pub fn write_plan(search: Search, buffer: &mut [u8]) -> Written
+pub fn write_plan(search: Search, buffer: &mut [u8]) -> Result<usize, Refusal>
     ensures { (result, buffer.new) ≡ written (plan_text search) buffer.old }
 {
     writing::write_plan(search, buffer)
 }
 
 // The file of the record's batch into a buffer: the number of bytes, or a refusal, 12 or 16, that leaves the buffer as it was.
-pub fn write_batch(search: Search, buffer: &mut [u8]) -> Written
+pub fn write_batch(search: Search, buffer: &mut [u8]) -> Result<usize, Refusal>
     ensures { (result, buffer.new) ≡ written (batch_text search) buffer.old }
 {
     writing::write_batch(search, buffer)
@@ -40,7 +40,7 @@ pub fn write_batch(search: Search, buffer: &mut [u8]) -> Written
 
 // Judges a plan text beside its batch file: passed where its lines name the batch's jobs in order, its starts are a valid plan and its latency is theirs; or a
 // refusal, the file's own, 1 to 10 or 20, or 17, 18 or 19.
-pub fn judge(file: &[u8], text: &[u8]) -> Judgement
+pub fn judge(file: &[u8], text: &[u8]) -> Result<(), Refusal>
     ensures { result ≡ judged file.now text.now }
 {
     judging::judge_file(file, text)

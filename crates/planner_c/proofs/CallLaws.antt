@@ -5,7 +5,7 @@ use Prim.Native.Nat.{ℕ}
 use Rattle.model.specs.declared.Search.{Search}
 use Rattle.model.specs.declared.Opened.{Opened}
 use Rattle.model.specs.declared.Ran.{Ran}
-use Rattle.model.specs.declared.Written.{Written}
+use Rattle.model.specs.Refusal.{Written}
 use Rattle.model.specs.Common.{Outcome}
 use Rattle.model.specs.Open.{opened}
 use Rattle.model.specs.Run.{ran}

@@ -13,7 +13,7 @@ use Rattle.model.specs.Best.{Best}
 use Rattle.std.specs.Prelude.{None, Some}
 use Rattle.model.specs.declared.Search.{Search}
 use Rattle.model.specs.declared.Ran.{Ran}
-use Rattle.model.specs.declared.Opening.TheVariants.{Accepted}
+use Rattle.std.specs.Prelude.{Ok}
 use Rattle.model.specs.Common.{Outcome, refuse, accept}
 use Rattle.model.specs.Open.{opened}
 use Rattle.model.specs.Calls.{Call, call, after}
@@ -65,7 +65,7 @@ run_same s budget list =
     ap (λ (t : Search). ran_as (record_of s) (ran t budget list)) (search_back s) ∙ by_cases (run_refusal s budget (length list)) s budget list
 
 -- a file that is opened yields the record of its fresh search
-pub opened_same : (s : Record) (file : List ℕ) → (opened file).answer ≡ Accepted → (opened_record s file).1 ≡ record_of (opened file).search
+pub opened_same : (s : Record) (file : List ℕ) → (opened file).answer ≡ Ok tt → (opened_record s file).1 ≡ record_of (opened file).search
 unfolding opened_record opened_as record_opened
 opened_same s file e = rw e
 

@@ -24,7 +24,7 @@ use Rattle.model.specs.Text.{plan_text, batch_text, fitting, written_as as writt
 use Rattle.model.specs.Judge.{RightText, judge, judged_as, judged}
 use Rattle.model.specs.Answers.{Verdict, spent, plan, no_plan, run_told}
 use Rattle.model.proofs.OutcomeLaws.{refused, accept_eq}
-use Rattle.model.proofs.RefusalLaws.{OpenNumber, RunNumber, PlanNumber, BatchNumber, JudgeNumber, open_refusals, run_refusals, plan_refusals, batch_refusals, judge_refusals}
+use Rattle.model.proofs.RefusalLaws.{Given, given_number, open_given, run_given, judge_given, plan_given, batch_given, OpenNumber, RunNumber, PlanNumber, BatchNumber, JudgeNumber, open_refusals, run_refusals, plan_refusals, batch_refusals, judge_refusals}
 use Rattle.model.proofs.OpenLaws.{open_format}
 use Rattle.model.proofs.JudgeLaws.{judge_right}
 use Rattle.planner_c.specs.declared.records.Record.{Record}
@@ -55,11 +55,12 @@ open_says s file = by (open_file file) refl
   where
     by : (o : Outcome Batch) → open_file file ≡ o → OpenSays s file (opened_as s (opened_by o)).0 (opened_as s (opened_by o)).1
     by (refuse k) e =
-        record {
+        subst (λ n. OpenSays s file n s) (sym (given_number k (open_given (open_refusals file k e))))
+        (record {
           opens = (λ z. absurd (open_positive k (open_refusals file k e) z), λ (b, f). refused (sym e ∙ (open_format file b).1 f));
           fresh = λ b f. refused (sym e ∙ (open_format file b).1 f);
           refused = λ n. (open_refusals file k e, e, refl);
-        }
+        })
     by (accept b) e =
         record {
           opens = (λ z. (b, (open_format file b).0 e), λ x. refl);
@@ -83,7 +84,7 @@ unfolding reply_told reply_of run_told
 reply_told_lem (Spent total) = refl
 reply_told_lem (Plan latency total) = refl
 reply_told_lem (NoPlan total) = refl
-reply_told_lem (Refused number) = refl
+reply_told_lem (Refused r) = refl
 
 -- an answer that is no refusal has another kind, and 0 for a refusal
 answer_kind : (e : Bool) (b : Best) (total : ℕ) → ((reply_of (answer_of e b total)).kind ≢ 3) × ((reply_of (answer_of e b total)).refusal ≡ 0)
@@ -101,7 +102,7 @@ pub record RunSays (s : Record) (budget : ℕ) (list : List ℕ) (r : Reply) (af
   pub answered : r.kind ≢ 3 → (r.refusal ≡ 0) × (after ≡ record_of (nodes budget (search_in s)))
 
 pub run_says : (s : Record) (budget : ℕ) (list : List ℕ) → let x = ran_record s budget list in RunSays s budget list x.0.0 x.0.1 x.1
-unfolding ran_record ran_as record_after reply_of ran ran_by answered
+unfolding ran_record ran_as record_after reply_of reply_told ran ran_by answered
 run_says s budget list = by (run_refusal (search_in s) budget (length list)) refl
   where
     run : Outcome (Unit {0}) → Ran × List ℕ
@@ -112,12 +113,14 @@ run_says s budget list = by (run_refusal (search_in s) budget (length list)) ref
 
     by : (o : Outcome (Unit {0})) → run_refusal (search_in s) budget (length list) ≡ o → let x = ran_as s (run o) in RunSays s budget list x.0.0 x.0.1 x.1
     by (refuse k) e =
-        record {
-          told = told (refuse k) e;
+        let z = given_number k (run_given (run_refusals (search_in s) budget (length list) k e)) in
+        subst (λ n. RunSays s budget list (record { kind = 3; refusal = n; latency = 0; total = 0 }) s list) (sym z)
+        (record {
+          told = ap refuse (sym z) ∙ told (refuse k) e;
           refuses = (λ z. (k, e), λ x. refl);
           refused = λ z. (run_refusals (search_in s) budget (length list) k e, e, refl, refl);
           answered = λ n. absurd (n refl);
-        }
+        })
     by (accept u) e =
         let t = nodes budget (search_in s) in
         let kind = answer_kind t.ended t.best t.total in
@@ -138,18 +141,20 @@ pub record TextSays (P : ℕ → Type 0) (text : Outcome (List ℕ)) (buffer : L
   pub refused : t.refusal ≢ 0 → P t.refusal × (fitting text (length buffer) ≡ refuse t.refusal) × (t.length ≡ 0) × (buffer' ≡ buffer)
 
 text_says :
-    (P : ℕ → Type 0) → (P 0 → ⊥) → (text : Outcome (List ℕ)) (buffer : List ℕ) → ((k : ℕ) → fitting text (length buffer) ≡ refuse k → P k)
+    (P : ℕ → Type 0) → ((k : ℕ) → P k → Given k) → (text : Outcome (List ℕ)) (buffer : List ℕ) → ((k : ℕ) → fitting text (length buffer) ≡ refuse k → P k)
     → TextSays P text buffer (written_text text buffer).0 (written_text text buffer).1
 unfolding written_text text_as text_of written written_by
-text_says P zero text buffer h = by (fitting text (length buffer)) refl
+text_says P given text buffer h = by (fitting text (length buffer)) refl
   where
     by : (o : Outcome (List ℕ)) → fitting text (length buffer) ≡ o → TextSays P text buffer (text_as (written_by o buffer)).0 (text_as (written_by o buffer)).1
     by (refuse k) e =
-        record {
-          writes = (λ z. absurd (zero (subst P z (h k e))), λ (x, f). refused (sym e ∙ f));
+        let is = given k (h k e) in
+        subst (λ n. TextSays P text buffer (record { length = 0; refusal = n }) buffer) (sym (given_number k is))
+        (record {
+          writes = (λ z. omega (arith, z, is.0), λ (x, f). refused (sym e ∙ f));
           bytes = λ x f. refused (sym e ∙ f);
           refused = λ n. (h k e, e, refl, refl);
-        }
+        })
     by (accept x) e =
         record {
           writes = (λ z. (x, e), λ y. refl);
@@ -159,10 +164,10 @@ text_says P zero text buffer h = by (fitting text (length buffer)) refl
 
 -- the plan text's refusals are 12, 15 and 16, the batch text's 12 and 16
 pub plan_says : (s : Record) (buffer : List ℕ) → let w = written_text (plan_text (search_in s)) buffer in TextSays PlanNumber (plan_text (search_in s)) buffer w.0 w.1
-plan_says s buffer = text_says PlanNumber (λ p. ⊎_elim (λ z. omega arith) (⊎_elim (λ z. omega arith) (λ z. omega arith)) p) (plan_text (search_in s)) buffer (plan_refusals (search_in s) (length buffer))
+plan_says s buffer = text_says PlanNumber (λ k. plan_given) (plan_text (search_in s)) buffer (plan_refusals (search_in s) (length buffer))
 
 pub batch_says : (s : Record) (buffer : List ℕ) → let w = written_text (batch_text (search_in s)) buffer in TextSays BatchNumber (batch_text (search_in s)) buffer w.0 w.1
-batch_says s buffer = text_says BatchNumber (λ p. ⊎_elim (λ z. omega arith) (λ z. omega arith) p) (batch_text (search_in s)) buffer (batch_refusals (search_in s) (length buffer))
+batch_says s buffer = text_says BatchNumber (λ k. batch_given) (batch_text (search_in s)) buffer (batch_refusals (search_in s) (length buffer))
 
 -- ---- judging
 
@@ -172,14 +177,15 @@ pub record JudgeSays (file text : List ℕ) (number : ℕ) : Type 0 where
   pub refused : number ≢ 0 → JudgeNumber number × (judge file text ≡ refuse number)
 
 pub judge_says : (file text : List ℕ) → JudgeSays file text (judged_number file text)
-unfolding judged_number judge_number judged judged_as
+unfolding judged_number number_of judged judged_as
 judge_says file text = by (judge file text) refl
   where
     by : (o : Outcome (Unit {0})) → judge file text ≡ o → JudgeSays file text (judge_number (judged_as o))
     by (refuse k) e =
         let n = judge_refusals file text k e in
-        record {
+        subst (JudgeSays file text) (sym (given_number k (judge_given n)))
+        (record {
           passes = (λ z. absurd (⊎_elim (λ h. open_positive k h z) (λ h. omega (arith, z, h.0)) n), λ r. refused (sym e ∙ (judge_right file text).1 r));
           refused = λ _. (n, e);
-        }
+        })
     by (accept u) e = record { passes = (λ z. (judge_right file text).0 e, λ r. refl); refused = λ n. absurd (n refl) }

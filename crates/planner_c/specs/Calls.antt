@@ -3,12 +3,12 @@
 use Rattle.std.specs.Prelude.{ℕ, List, [], ◌∷◌}
 use Rattle.model.specs.declared.Answer.{Answer}
 use Rattle.model.specs.declared.Answer.TheVariants.{Spent, Plan, NoPlan, Refused}
-use Rattle.model.specs.declared.Opening.{Opening}
-use Rattle.model.specs.declared.Opening.TheVariants.{Accepted, Refused as Closed}
+use Rattle.std.specs.Prelude.{Result, Ok, Err}
+use Rattle.model.specs.declared.refusal.Refusal.{Refusal}
 use Rattle.model.specs.declared.Search.{Search}
 use Rattle.model.specs.declared.Opened.{Opened}
 use Rattle.model.specs.declared.Ran.{Ran}
-use Rattle.model.specs.declared.Written.{Written}
+use Rattle.model.specs.Refusal.{Written}
 use Rattle.model.specs.Common.{Outcome}
 use Rattle.model.specs.Open.{opened}
 use Rattle.model.specs.Run.{ran}
@@ -22,9 +22,9 @@ use Rattle.planner_c.specs.Records.{search_in, record_of}
 use Rattle.planner_c.specs.Replies.{number_of, reply_of, text_of, judge_number}
 
 -- the record after opening: the one given where the file is refused, else the record of the fresh search
-unfoldable pub record_opened : Record → Opening → Search → Record
-record_opened s Accepted fresh = record_of fresh
-record_opened s (Closed number) fresh = s
+unfoldable pub record_opened : Record → Result (Unit {0}) Refusal → Search → Record
+record_opened s (Ok u) fresh = record_of fresh
+record_opened s (Err r) fresh = s
 
 -- opening: the number and the record
 unfoldable pub opened_as : Record → Opened → ℕ × Record
@@ -38,7 +38,7 @@ unfoldable pub record_after : Record → Answer → Search → Record
 record_after s (Spent total) next = record_of next
 record_after s (Plan latency total) next = record_of next
 record_after s (NoPlan total) next = record_of next
-record_after s (Refused number) next = s
+record_after s (Refused r) next = s
 
 -- a run: the reply and the record, and the starts list
 unfoldable pub ran_as : Record → Ran × List ℕ → (Reply × Record) × List ℕ

@@ -6,7 +6,7 @@ ghost use Rattle.planner_c.specs.Calls.{record_opened, opened_record, record_aft
 
 use crate::records::Record;
 use crate::replies::{Reply, Text, number_of};
-use model::{Answer, Opening, Search};
+use model::{Answer, Refusal, Search};
 
 // What opening yields: 0 or the refusal, and the record.
 #[derive(Clone, Copy)]
@@ -23,13 +23,13 @@ pub struct Stepped {
 }
 
 // The record after opening: the same one if the file was refused.
-fn record_opened(state: Record, answer: Opening, search: Search) -> Record
+fn record_opened(state: Record, answer: Result<(), Refusal>, search: Search) -> Record
     ensures { result ≡ record_opened state answer search }
 {
     let fresh = Record::from(search);
     match answer {
-        Opening::Accepted => fresh,
-        Opening::Refused(_) => state,
+        Ok(()) => fresh,
+        Err(_) => state,
     }
 }
 

@@ -10,7 +10,7 @@ ghost use Rattle.planner_c.specs.Calls.{opened_record, ran_record, written_text,
 
 use calls::{batch_text, open_record, plan_text, run_record};
 use records::Record;
-use replies::{Reply, Text, judge_number};
+use replies::{Reply, Text, number_of};
 
 mod calls;
 mod records;
@@ -67,5 +67,5 @@ pub extern "C" fn planner_write_batch(state: &Record, buffer: &mut [u8]) -> Text
 pub extern "C" fn planner_judge(file: &[u8], text: &[u8]) -> u8
     ensures { result ≡ judged_number file.now text.now }
 {
-    judge_number(planner::judge(file, text))
+    number_of(planner::judge(file, text))
 }

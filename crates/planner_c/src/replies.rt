@@ -1,8 +1,8 @@
 // The answers as C gets them: numbers alone.
 ghost use Rattle.std.specs.Prelude.{◌≡◌};
-ghost use Rattle.planner_c.specs.Replies.{number_of, reply_of, text_of, judge_number};
+ghost use Rattle.planner_c.specs.Replies.{number_of, reply_of, text_of};
 
-use model::{Answer, Judgement, Opening, Written};
+use model::{Answer, Refusal};
 
 // The answer of a run. `kind` is 0 spent, 1 a plan, 2 no plan, 3 refused; a number that the answer has not is 0.
 #[repr(C)]
@@ -22,14 +22,14 @@ pub struct Text {
     pub refusal: u8,
 }
 
-// 0 where the file is opened, else the refusal. (No `From`: neither type is of this crate. The same holds of judging.)
+// 0 where the file is opened, or the plan text passes, and else the refusal. (No `From`: neither type is of this crate.)
 #[tactic(auto, unfolding(crate::specs::Replies::number_of))]
-pub fn number_of(answer: Opening) -> u8
+pub fn number_of(answer: Result<(), Refusal>) -> u8
     ensures { result ≡ number_of answer }
 {
     match answer {
-        Opening::Accepted => 0,
-        Opening::Refused(number) => number,
+        Ok(()) => 0,
+        Err(refusal) => refusal.number(),
     }
 }
 
@@ -59,7 +59,7 @@ impl From<Answer> for Reply {
             },
             Answer::Refused(refusal) => Reply {
                 kind: 3,
-                refusal,
+                refusal: refusal.number(),
                 latency: 0,
                 total: 0,
             },
@@ -68,28 +68,17 @@ impl From<Answer> for Reply {
 }
 
 // The text's length, or the refusal.
-impl From<Written> for Text {
+impl From<Result<usize, Refusal>> for Text {
     ghost from_gives = { λ answer text. text ≡ text_of answer };
 
     #[tactic(auto, unfolding(crate::specs::Replies::text_of))]
-    fn from(answer: Written) -> Text {
+    fn from(answer: Result<usize, Refusal>) -> Text {
         match answer {
-            Written::Bytes(length) => Text { length, refusal: 0 },
-            Written::Refused(number) => Text {
+            Ok(length) => Text { length, refusal: 0 },
+            Err(refusal) => Text {
                 length: 0,
-                refusal: number,
+                refusal: refusal.number(),
             },
         }
-    }
-}
-
-// 0 where the plan text passes, else the refusal.
-#[tactic(auto, unfolding(crate::specs::Replies::judge_number))]
-pub fn judge_number(answer: Judgement) -> u8
-    ensures { result ≡ judge_number answer }
-{
-    match answer {
-        Judgement::Passed => 0,
-        Judgement::Refused(number) => number,
     }
 }

@@ -20,7 +20,7 @@ use Rattle.model.specs.Answers.{plan, run_told, open_told, best_told}
 use Rattle.model.specs.Calls.{Call, call, after, granted}
 use Rattle.model.specs.Demands.{OpeningLeaves, RunLeaves, WritingLeaves, PlanWith, Reached}
 use Rattle.model.proofs.EndLaws.{ends_unique}
-use Rattle.model.proofs.RefusalLaws.{Given, plan_given, batch_given}
+use Rattle.model.proofs.RefusalLaws.{Given, plan_text_given, batch_text_given}
 use Rattle.model.proofs.LeaveLaws.{opening_leaves, running_leaves, writing_leaves}
 use Rattle.model.proofs.OpenLaws.{after_append, N, file_end, after_reached, after_refused, after_answered, written_back, best_plans, answer_plans, text_plans, opens, yields}
 use Rattle.promises.specs.Demands.{Called, none, more, Demand1, Demand2, LastCall, Demand3, Demands}
@@ -41,8 +41,8 @@ demand_1 =
     record {
       opening = λ file o e. subst (OpeningLeaves file) (sym e) (opening_leaves file);
       running = λ s budget list r list' e. subst (λ (x : Ran × List ℕ). RunLeaves s budget list x.0 x.1) (sym e) (running_leaves s budget list);
-      plan_writing = λ s. writing (plan_text s) (plan_given s);
-      batch_writing = λ s. writing (batch_text s) (batch_given s);
+      plan_writing = λ s. writing (plan_text s) (plan_text_given s);
+      batch_writing = λ s. writing (batch_text s) (batch_text_given s);
     }
 
 -- ---- demand 2
@@ -54,13 +54,13 @@ demand_2 file o e =
       opens = subst (λ (o : Opened). (open_told o.answer ≡ accept tt) ↔ ((b : Batch) × BatchFile file b)) (sym e) (opens file);
       yields = fresh;
       written_back = λ b f cs s h buffer w buffer' room m.
-          (writing (batch_text s) (batch_given s) buffer w buffer' m).fits file (ap batch_text (at b f cs s h) ∙ written_back file b f cs) room;
+          (writing (batch_text s) (batch_text_given s) buffer w buffer' m).fits file (ap batch_text (at b f cs s h) ∙ written_back file b f cs) room;
       best_plans = λ b f cs s h. subst (λ (x : Search). (l : ℕ) → best_told x.best ≡ some l → PlanWith b x.starts l) (sym (at b f cs s h)) (best_plans file b f cs);
       answer_plans = λ b f cs s h c r list' m.
           let z = m ∙ ap (λ (x : Search). ran x c.budget c.starts) (at b f cs s h) in
           subst (λ (x : Ran × List ℕ). (l t : ℕ) → run_told x.0.answer ≡ accept (plan l t) → PlanWith b x.1 l) (sym z) (answer_plans file b f cs c);
       text_plans = λ b f cs s h e buffer w buffer' room m.
-          (writing (plan_text s) (plan_given s) buffer w buffer' m).fits _ (text b f cs s h e) room;
+          (writing (plan_text s) (plan_text_given s) buffer w buffer' m).fits _ (text b f cs s h e) room;
     }
   where
     fresh : (b : Batch) → BatchFile file b → o.search ≡ fresh_search b

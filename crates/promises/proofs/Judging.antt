@@ -24,7 +24,7 @@ use Rattle.model.specs.Demands.{WritingLeaves}
 use Rattle.model.specs.Judge.{RightText, Claim, Claims, RightJobs, RightPlan, read_claim, jobs_right, plan_right, judge, judged_as, judged}
 use Rattle.model.proofs.BoolLaws.{apart}
 use Rattle.model.proofs.OutcomeLaws.{refused, accept_eq}
-use Rattle.model.proofs.RefusalLaws.{Given, given_number, open_given, judge_given, plan_given, open_refusals, judge_refusals}
+use Rattle.model.proofs.RefusalLaws.{Given, given_number, open_given, judge_given, plan_text_given, open_refusals, judge_refusals}
 use Rattle.model.proofs.OpenLaws.{open_format, opens, yields}
 use Rattle.model.proofs.ClaimLaws.{claim_iff}
 use Rattle.model.proofs.JudgeLaws.{jobs_iff, plan_iff, judge_refused, judge_form, judge_jobs, judge_plan, judge_passes, judge_right, plan_right_lem}
@@ -95,7 +95,7 @@ q1 =
           let (b, f) = (opens file).0 (ap (λ (x : Opened). open_told x.answer) (sym e) ∙ yes) in
           let fresh : o.search ≡ fresh_search b = ap (λ (x : Opened). x.search) e ∙ yields file b f in
           let at : s ≡ after (fresh_search b) cs = called_after h ∙ ap (λ (x : Search). after x cs) fresh in
-          let (text, is, bytes) = written_bytes (plan_text s) (plan_given s) buffer w buffer' m k fits in
+          let (text, is, bytes) = written_bytes (plan_text s) (plan_text_given s) buffer w buffer' m k fits in
           let right : RightText b text = plan_right_lem file b f cs l (ap (λ (x : Search). best_told x.best) (sym at) ∙ best) text (ap plan_text (sym at) ∙ is) in
           ap judge_told (z ∙ ap (judged file) bytes) ∙ told_judged file text ∙ (judge_right file text).1 (b, f, right);
     }

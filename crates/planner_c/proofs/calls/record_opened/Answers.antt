@@ -2,10 +2,10 @@
 use Rattle.planner_c.specs.Calls.{record_opened}
 use Rattle.planner_c.proofs.calls.record_opened.Goals as goal
 
-pub returns-in-Accepted : goal.returns-in-Accepted
+pub returns-in-Ok : goal.returns-in-Ok
 unfolding record_opened
-returns-in-Accepted c = rw c.in-Accepted.is c.from-fresh.ensures
+returns-in-Ok c = rw c.in-Ok.is c.from-fresh.ensures
 
-pub returns-in-Refused : goal.returns-in-Refused
+pub returns-in-Err : goal.returns-in-Err
 unfolding record_opened
-returns-in-Refused c = rw c.in-Refused.is
+returns-in-Err c = rw c.in-Err.is
