@@ -1,5 +1,5 @@
 -- The answer of judging, by the first of 17, 18 and 19 that holds.
-use Rattle.std.specs.Prelude.{Some, None}
+use Rattle.std.specs.Prelude.{Some, None, Ok, Err}
 use Prim.Native.Nat.{ℕ, ◌≤◌}
 use mathlib.Core.Path.{◌≡◌, refl, ap, ap₂, sym, ◌∙◌}
 use mathlib.Core.Bool.{Bool, true, false, ◌&&◌, not}
@@ -16,7 +16,9 @@ use Rattle.model.specs.Plan.{start, latency}
 use Rattle.model.specs.Starts.{same}
 use Rattle.model.specs.Format.{Within}
 use Rattle.model.specs.Open.{few_clashes, read_one, open_file}
-use Rattle.model.specs.Judge.{Claim, jobs_in, starts_in, claim_head, read_lines, read_claim, as17, jobs_right, valid, plan_right, judge_text, judge}
+use Rattle.model.specs.Judge.{Claim, jobs_in, starts_in, claim_head, read_lines, read_claim, as17, jobs_right, valid, plan_right, judge_text, judge, judged_as, judged}
+use Rattle.model.specs.Refusal.{Judgement, told}
+use Rattle.model.proofs.NamedLaws.{named_number}
 use Rattle.model.proofs.BoolLaws.{both, and, same_test, passes, fails}
 use Rattle.model.proofs.ListLaws.{count_length}
 use Rattle.model.proofs.SeqLaws.{pad_at}
@@ -144,3 +146,11 @@ module _ (file : List ℕ) (b : Batch) (is : open_file file ≡ accept b) where
   pub file_judged : (text : List ℕ) → judge_text b text ≡ judge file text
   unfolding judge ◌>>=◌
   file_judged text = rw is
+
+-- ---- the answer
+
+-- an answer that tells what the definition gives is the definition's
+pub judged_told : (file text : List ℕ) (r : Judgement) → told r ≡ judge file text → r ≡ judged file text
+unfolding judged judged_as told
+judged_told file text (Ok u) e = ap judged_as e
+judged_told file text (Err r) e = ap Err (sym (named_number r)) ∙ ap judged_as e

@@ -2,12 +2,12 @@
 ghost use Rattle.std.specs.Prelude.{◌≡◌, true};
 ghost use Rattle.model.specs.Format.{Within};
 ghost use Rattle.model.specs.Open.{few_clashes};
-ghost use Rattle.model.specs.Judge.{judge_text, judge, judged};
+ghost use Rattle.model.specs.Judge.{judge_text, judged};
 ghost use Rattle.model.specs.Refusal.{told};
 
 use crate::plan::is_right;
 use claims::{read_head, read_lines};
-use model::{Batch, Judgement, Refusal};
+use model::{Batch, Refusal};
 use opening::open_batch;
 
 // Beside a batch that was opened: 17, 18, 19.
@@ -27,19 +27,9 @@ fn judge_text(batch: &Batch, text: &[u8]) -> Result<(), Refusal>
 }
 
 // The file is opened, and the text judged beside its batch.
-fn judge(file: &[u8], text: &[u8]) -> Result<(), Refusal>
-    ensures { told result ≡ judge file.now text.now }
+pub fn judge_file(file: &[u8], text: &[u8]) -> Result<(), Refusal>
+    ensures { result ≡ judged file.now text.now }
 {
     let batch = open_batch(file)?;
     judge_text(&batch, text)
-}
-
-// The answer of the call: a refusal by its number.
-pub fn judge_file(file: &[u8], text: &[u8]) -> Judgement
-    ensures { result ≡ judged file.now text.now }
-{
-    match judge(file, text) {
-        Ok(()) => Judgement::Passed,
-        Err(refusal) => Judgement::Refused(refusal.number()),
-    }
 }

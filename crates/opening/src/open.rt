@@ -4,7 +4,7 @@ ghost use Rattle.model.specs.Open.{open_file, opened};
 ghost use Rattle.model.specs.Refusal.{told};
 
 use crate::few::few_clashes;
-use model::{Batch, Opened, Opening, Refusal, fresh};
+use model::{Batch, Opened, Refusal, fresh};
 use reading::{blank_batch, read_batch};
 use starts::met::delays_met;
 
@@ -22,17 +22,17 @@ pub fn open_batch(file: &[u8]) -> Result<Batch, Refusal>
     Ok(batch)
 }
 
-// The fresh search of a file that opens; a refusal has its number, and the one blank record.
+// The fresh search of a file that opens; beside a refusal stands the one blank record, since the theorems on opening speak of it.
 pub fn open_file(file: &[u8]) -> Opened
     ensures { result ≡ opened file.now }
 {
     match open_batch(file) {
         Ok(batch) => Opened {
-            answer: Opening::Accepted,
+            answer: Ok(()),
             search: fresh(batch),
         },
         Err(refusal) => Opened {
-            answer: Opening::Refused(refusal.number()),
+            answer: Err(refusal),
             search: fresh(blank_batch()),
         },
     }
