@@ -151,7 +151,7 @@ text_says P given text buffer h = by (fitting text (length buffer)) refl
         let is = given k (h k e) in
         subst (λ n. TextSays P text buffer (record { length = 0; refusal = n }) buffer) (sym (given_number k is))
         (record {
-          writes = (λ z. omega (arith, z, is.0), λ (x, f). refused (sym e ∙ f));
+          writes = (λ z. absurd (omega (arith, z, is.0)), λ (x, f). refused (sym e ∙ f));
           bytes = λ x f. refused (sym e ∙ f);
           refused = λ n. (h k e, e, refl, refl);
         })

@@ -9,10 +9,10 @@ pub judge-requires : goal.judge-requires
 unfolding judged_number
 judge-requires c = search rules
 
-pub judge_number-requires : goal.judge_number-requires
+pub number_of-requires : goal.number_of-requires
 unfolding judged_number
-judge_number-requires c = search rules
+number_of-requires c = search rules
 
 pub returns : goal.returns
 unfolding judged_number
-returns c = c.judge_number.ensures ∙ ap judge_number c.judge.ensures
+returns c = c.number_of.ensures ∙ ap judge_number c.judge.ensures
