@@ -1,5 +1,5 @@
 // The planner's calls, made on the present record: the record after it, or none where the line names no call. The answer goes into the line of output.
-use crate::answers::{put_answer, put_judgement, put_opening, put_written};
+use crate::answers::{put_answer, put_verdict, put_written};
 use crate::digits::read_file;
 use crate::text::Output;
 use model::Search;
@@ -16,7 +16,7 @@ const PLACES: [u16; 32] = [
 pub fn open(line: &[u8], out: &mut Output) -> Option<Search> {
     let file = read_file(line)?;
     let opened = planner::open(file.as_bytes());
-    put_opening(out, opened.answer);
+    put_verdict(out, b'O', opened.answer);
     Some(opened.search)
 }
 
@@ -64,6 +64,6 @@ pub fn judge(search: Search, line: &[u8], out: &mut Output) -> Option<Search> {
     let blank = 2 + line[2..].iter().position(|byte| *byte == b' ')?;
     let file = read_file(&line[..blank])?;
     let text = read_file(&line[blank - 1..])?;
-    put_judgement(out, planner::judge(file.as_bytes(), text.as_bytes()));
+    put_verdict(out, b'J', planner::judge(file.as_bytes(), text.as_bytes()));
     Some(search)
 }

@@ -15,11 +15,12 @@ use Rattle.std.specs.Prelude.{None, Some}
 use Rattle.model.specs.declared.Search.{Search}
 use Rattle.model.specs.declared.Ran.{Ran}
 use Rattle.model.specs.declared.Opened.{Opened}
-use Rattle.model.specs.declared.Opening.TheVariants.{Accepted, Refused as Closed}
+use Rattle.std.specs.Prelude.{Ok, Err}
+use Rattle.model.specs.declared.refusal.Refusal.{Refusal}
 use Rattle.model.specs.declared.Answer.{Answer}
 use Rattle.model.specs.declared.Answer.TheVariants.{Spent, Plan, NoPlan, Refused}
-use Rattle.model.specs.declared.Written.{Written}
-use Rattle.model.specs.declared.Written.TheVariants.{Bytes, Refused as Unwritten}
+use Rattle.model.specs.Refusal.{Written, number, named}
+use Rattle.model.proofs.RefusalLaws.{given_number, open_given, open_refusals, plan_text_given}
 use Rattle.model.specs.Common.{Outcome, refuse, accept, ◌>>=◌, require}
 use Rattle.model.specs.Limits.{most_jobs, most_budget}
 use Rattle.model.specs.Search.{fresh_search}
@@ -71,8 +72,8 @@ plan_room s t e = go (sound s) s.ended refl refl
 
 module _ (s : Search) (buffer : List ℕ) (room : 235 ≤ length buffer) where
   wrote : (o : Outcome (List ℕ)) → plan_text s ≡ o → Written × List ℕ
-  wrote (accept t) e = (Bytes (length t), t ++ drop (length t) buffer)
-  wrote (refuse k) e = (Unwritten k, buffer)
+  wrote (accept t) e = (Ok (length t), t ++ drop (length t) buffer)
+  wrote (refuse k) e = (Err (named k), buffer)
 
   wrote_is : (o : Outcome (List ℕ)) (e : plan_text s ≡ o) → written (plan_text s) buffer ≡ wrote o e
   unfolding written fitting written_as require ◌>>=◌ wrote
@@ -84,7 +85,7 @@ module _ (s : Search) (buffer : List ℕ) (room : 235 ≤ length buffer) where
     told o e = h ∙ wrote_is o e
 
     -- it is written whole, and the number of its bytes is told
-    text_of : (n : ℕ) → w ≡ Bytes n → (o : Outcome (List ℕ)) → plan_text s ≡ o → (n, buffer') ≡ at_front (printed o) buffer
+    text_of : (n : ℕ) → w ≡ Ok n → (o : Outcome (List ℕ)) → plan_text s ≡ o → (n, buffer') ≡ at_front (printed o) buffer
     unfolding wrote at_front printed
     text_of n b (accept t) e =
         let y : n ≡ length t = cc (sym b ∙ ap (λ (x : Written × List ℕ). x.0) (told (accept t) e)) in
@@ -92,21 +93,21 @@ module _ (s : Search) (buffer : List ℕ) (room : 235 ≤ length buffer) where
     text_of n b (refuse k) e =
         let y : ◌≡◌ {A = ℕ} 0 1 = cc (sym b ∙ ap (λ (x : Written × List ℕ). x.0) (told (refuse k) e)) in absurd (omega arith)
 
-    pub wrote_text : (n : ℕ) → w ≡ Bytes n → (n, buffer') ≡ at_front (printed (plan_text s)) buffer
+    pub wrote_text : (n : ℕ) → w ≡ Ok n → (n, buffer') ≡ at_front (printed (plan_text s)) buffer
     wrote_text n b = text_of n b (plan_text s) refl
 
     -- or it is refused, and the buffer is as it was
-    refusal_of : (k : ℕ) → w ≡ Unwritten k → (o : Outcome (List ℕ)) → plan_text s ≡ o → (printed o ≡ refusal_line k) × (buffer' ≡ buffer)
+    refusal_of : (r : Refusal) → w ≡ Err r → (o : Outcome (List ℕ)) → plan_text s ≡ o → (printed o ≡ refusal_line (number r)) × (buffer' ≡ buffer)
     unfolding wrote printed
-    refusal_of k b (accept t) e =
+    refusal_of r b (accept t) e =
         let y : ◌≡◌ {A = ℕ} 0 1 = cc (sym b ∙ ap (λ (x : Written × List ℕ). x.0) (told (accept t) e)) in absurd (omega arith)
-    refusal_of k b (refuse j) e =
-        let y : j ≡ k = cc (sym b ∙ ap (λ (x : Written × List ℕ). x.0) (told (refuse j) e)) in
-        (ap refusal_line y, ap (λ (x : Written × List ℕ). x.1) (told (refuse j) e))
+    refusal_of r b (refuse j) e =
+        let y : r ≡ named j = cc (sym b ∙ ap (λ (x : Written × List ℕ). x.0) (told (refuse j) e)) in
+        (ap refusal_line (sym (given_number j (plan_text_given s j e)) ∙ ap number (sym y)), ap (λ (x : Written × List ℕ). x.1) (told (refuse j) e))
 
-    pub wrote_nothing : (k : ℕ) → w ≡ Unwritten k → (r : ℕ) (last : List ℕ) → (r, last) ≡ at_front (refusal_line k) buffer' → (r, last) ≡ at_front (printed (plan_text s)) buffer
-    wrote_nothing k b r last e =
-        let z = refusal_of k b (plan_text s) refl in
+    pub wrote_nothing : (r : Refusal) → w ≡ Err r → (q : ℕ) (last : List ℕ) → (q, last) ≡ at_front (refusal_line (number r)) buffer' → (q, last) ≡ at_front (printed (plan_text s)) buffer
+    wrote_nothing r b q last e =
+        let z = refusal_of r b (plan_text s) refl in
         e ∙ ap₂ at_front (sym z.0) z.1
 
 -- ---- runs until one is not spent
@@ -118,8 +119,8 @@ ended_on (Spent total) (inl e) k s = absurd (omega (arith, e))
 ended_on (Spent total) (inr e) k s = absurd (omega (arith, e))
 ended_on (Plan latency total) one k s = refl
 ended_on (NoPlan total) one k s = refl
-ended_on (Refused number) (inl e) k s = absurd (omega (arith, e))
-ended_on (Refused number) (inr e) k s = absurd (omega (arith, e))
+ended_on (Refused x) (inl e) k s = absurd (omega (arith, e))
+ended_on (Refused x) (inr e) k s = absurd (omega (arith, e))
 
 module _ (k : ℕ) (s : Search) (r : Ran) (e : r ≡ (ran s most_budget (replicate most_jobs 0)).0) where
   planned_is : planned (suc k) s ≡ (run_told r.answer >>= go_on (planned k) r.search)
@@ -130,9 +131,9 @@ module _ (k : ℕ) (s : Search) (r : Ran) (e : r ≡ (ran s most_budget (replica
   unfolding run_told go_on ◌>>=◌
   run_spent total a = planned_is ∙ rw a
 
-  run_refused : (number : ℕ) → r.answer ≡ Refused number → planned (suc k) s ≡ refuse number
+  run_refused : (x : Refusal) → r.answer ≡ Refused x → planned (suc k) s ≡ refuse (number x)
   unfolding run_told go_on ◌>>=◌
-  run_refused number a = planned_is ∙ rw a
+  run_refused x a = planned_is ∙ rw a
 
   run_ended : OneOf (1 ∷ 2 ∷ []) (tag_of A.the_type r.answer) → planned (suc k) s ≡ plan_text r.search
   run_ended one = planned_is ∙ ended_on r.answer one k r.search
@@ -156,9 +157,9 @@ module _ (runs : ℕ) (fresh s : Search) (left : planned (101 - runs) s ≡ plan
         let z : 101 - (runs + 1) ≡ 100 - runs = omega arith in
         ap (λ (k : ℕ). planned k r.search) z ∙ sym (run_spent (100 - runs) s r e total a) ∙ whole
 
-    pub is_refused : (number : ℕ) → r.answer ≡ Refused number → (q : ℕ) (last : List ℕ) → (q, last) ≡ at_front (refusal_line number) text → (q, last) ≡ at_front (printed (planned 101 fresh)) text₀
+    pub is_refused : (x : Refusal) → r.answer ≡ Refused x → (q : ℕ) (last : List ℕ) → (q, last) ≡ at_front (refusal_line (number x)) text → (q, last) ≡ at_front (printed (planned 101 fresh)) text₀
     unfolding printed
-    is_refused number a = placed (refusal_line number) (refuse number) (sym (run_refused (100 - runs) s r e number a) ∙ whole) refl
+    is_refused x a = placed (refusal_line (number x)) (refuse (number x)) (sym (run_refused (100 - runs) s r e x a) ∙ whole) refl
 
     pub is_ended : OneOf (1 ∷ 2 ∷ []) (tag_of A.the_type r.answer) → (q : ℕ) (last : List ℕ) → (q, last) ≡ at_front (printed (plan_text r.search)) text
         → (q, last) ≡ at_front (printed (planned 101 fresh)) text₀
@@ -171,20 +172,20 @@ module _ (file : List ℕ) (o : Opened) (e : o ≡ opened file) where
   unfolding opened
   text_as_lem x h = e ∙ ap opened_as h
 
-  opens : o.answer ≡ Accepted → (x : Outcome Batch) → open_file file ≡ x → printed (planned 101 o.search) ≡ printed (x >>= λ b. planned 101 (fresh_search b))
+  opens : o.answer ≡ Ok tt → (x : Outcome Batch) → open_file file ≡ x → printed (planned 101 o.search) ≡ printed (x >>= λ b. planned 101 (fresh_search b))
   unfolding opened_as ◌>>=◌
   opens a (accept b) h = ap (λ (p : Opened). printed (planned 101 p.search)) (text_as_lem (accept b) h)
   opens a (refuse k) h = let y : ◌≡◌ {A = ℕ} 0 1 = cc (sym a ∙ ap (λ (p : Opened). p.answer) (text_as_lem (refuse k) h)) in absurd (omega arith)
 
-  pub text_opened : o.answer ≡ Accepted → (text : List ℕ) (q : ℕ) (last : List ℕ) → (q, last) ≡ at_front (printed (planned 101 o.search)) text → (q, last) ≡ at_front (text_for file) text
+  pub text_opened : o.answer ≡ Ok tt → (text : List ℕ) (q : ℕ) (last : List ℕ) → (q, last) ≡ at_front (printed (planned 101 o.search)) text → (q, last) ≡ at_front (text_for file) text
   unfolding text_for
   text_opened a text q last h = h ∙ ap (λ (t : List ℕ). at_front t text) (opens a (open_file file) refl)
 
-  closes : (number : ℕ) → o.answer ≡ Closed number → (x : Outcome Batch) → open_file file ≡ x → refusal_line number ≡ printed (x >>= λ b. planned 101 (fresh_search b))
+  closes : (r : Refusal) → o.answer ≡ Err r → (x : Outcome Batch) → open_file file ≡ x → refusal_line (number r) ≡ printed (x >>= λ b. planned 101 (fresh_search b))
   unfolding opened_as ◌>>=◌ printed
-  closes number a (accept b) h = let y : ◌≡◌ {A = ℕ} 0 1 = cc (sym a ∙ ap (λ (p : Opened). p.answer) (text_as_lem (accept b) h)) in absurd (omega arith)
-  closes number a (refuse k) h = let y : number ≡ k = cc (sym a ∙ ap (λ (p : Opened). p.answer) (text_as_lem (refuse k) h)) in ap refusal_line y
+  closes r a (accept b) h = let y : ◌≡◌ {A = ℕ} 0 1 = cc (sym a ∙ ap (λ (p : Opened). p.answer) (text_as_lem (accept b) h)) in absurd (omega arith)
+  closes r a (refuse k) h = let y : r ≡ named k = cc (sym a ∙ ap (λ (p : Opened). p.answer) (text_as_lem (refuse k) h)) in ap refusal_line (ap number y ∙ given_number k (open_given (open_refusals file k h)))
 
-  pub text_closed : (number : ℕ) → o.answer ≡ Closed number → (text : List ℕ) (q : ℕ) (last : List ℕ) → (q, last) ≡ at_front (refusal_line number) text → (q, last) ≡ at_front (text_for file) text
+  pub text_closed : (r : Refusal) → o.answer ≡ Err r → (text : List ℕ) (q : ℕ) (last : List ℕ) → (q, last) ≡ at_front (refusal_line (number r)) text → (q, last) ≡ at_front (text_for file) text
   unfolding text_for
-  text_closed number a text q last h = h ∙ ap (λ (t : List ℕ). at_front t text) (closes number a (open_file file) refl)
+  text_closed r a text q last h = h ∙ ap (λ (t : List ℕ). at_front t text) (closes r a (open_file file) refl)

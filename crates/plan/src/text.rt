@@ -1,19 +1,20 @@
 // From a batch file to the text that the program prints.
 ghost use Rattle.std.specs.Prelude.{◌≡◌, ◌≤◌, length, replicate};
 ghost use Rattle.model.specs.Limits.{most_jobs, most_budget};
+ghost use Rattle.model.specs.Refusal.{number};
 ghost use Rattle.model.specs.Run.{ran};
 ghost use Rattle.model.specs.Text.{plan_text, refusal_line};
 ghost use Rattle.model.specs.Program.{planned, printed, text_for, at_front};
 
-use model::{Answer, Opening, Ran, Search, Written};
+use model::{Answer, Ran, Refusal, Search};
 
 // The line BF and a refusal's number at the front of a buffer; its length.
-fn refusal(text: &mut [u8], number: u8) -> usize
+fn refused(text: &mut [u8], refusal: Refusal) -> usize
     requires { 5 ≤ length text.old }
-    ensures { (result, text.new) ≡ at_front (refusal_line number) text.old }
+    ensures { (result, text.new) ≡ at_front (refusal_line (number refusal)) text.old }
 {
     let kind = lines::put_byte(text, 0, 0xBF);
-    let byte = lines::put_byte(text, kind, number);
+    let byte = lines::put_byte(text, kind, refusal.number());
     lines::put_end(text, byte)
 }
 
@@ -23,8 +24,8 @@ fn plan_lines(search: Search, text: &mut [u8]) -> usize
     ensures { (result, text.new) ≡ at_front (printed (plan_text search)) text.old }
 {
     match planner::write_plan(search, text) {
-        Written::Bytes(length) => length,
-        Written::Refused(number) => refusal(text, number),
+        Ok(length) => length,
+        Err(refusal) => refused(text, refusal),
     }
 }
 
@@ -47,11 +48,11 @@ fn searched(fresh: Search, text: &mut [u8]) -> usize
         search = ran.search;
         match ran.answer {
             Answer::Spent(_) => {}
-            Answer::Refused(number) => return refusal(text, number),
+            Answer::Refused(refusal) => return refused(text, refusal),
             Answer::Plan(_, _) | Answer::NoPlan(_) => return plan_lines(search, text),
         }
     }
-    refusal(text, 14)
+    refused(text, Refusal::Total)
 }
 
 // The text for a batch file, at the front of a buffer; its length. (Buffer and length stand apart, as the definition `at_front` has them.)
@@ -61,7 +62,7 @@ pub fn plan_text(file: &[u8], text: &mut [u8]) -> usize
 {
     let opened = planner::open(file);
     match opened.answer {
-        Opening::Accepted => searched(opened.search, text),
-        Opening::Refused(number) => refusal(text, number),
+        Ok(()) => searched(opened.search, text),
+        Err(refusal) => refused(text, refusal),
     }
 }

@@ -2,8 +2,8 @@
 use Rattle.plan.proofs.TextLaws.{text_opened, text_closed}
 use Rattle.plan.proofs.text.plan_text.Goals as goal
 
-pub returns-in-Accepted : goal.returns-in-Accepted
-returns-in-Accepted c = text_opened _ _ c.open-opened.ensures c.in-Accepted.is _ _ _ c.searched.ensures
+pub returns-in-Ok : goal.returns-in-Ok
+returns-in-Ok c = text_opened _ _ c.open-opened.ensures c.in-Ok.is _ _ _ c.searched.ensures
 
-pub returns-in-Refused : goal.returns-in-Refused
-returns-in-Refused c = text_closed _ _ c.open-opened.ensures _ c.in-Refused.is _ _ _ c.refusal.ensures
+pub returns-in-Err : goal.returns-in-Err
+returns-in-Err c = text_closed _ _ c.open-opened.ensures _ c.in-Err.is _ _ _ c.refused.ensures

@@ -1,10 +1,11 @@
 -- `searched` meets its contract. The loop's invariant: what the runs that are left give is what all of them give, and the buffer is as it was.
 use native.Mathlib.Omega.{arith}
 use Rattle.plan.proofs.TextLaws.{no_runs, goes_on, is_refused, is_ended}
+use Rattle.model.specs.Refusal as refusal
 use Rattle.plan.proofs.text.searched.Goals as goal
 
 pub returns-in-Refused : goal.returns-in-Refused
-returns-in-Refused c = is_refused _ _ _ c.loop.invariant.1 _ _ c.loop.invariant.0 (omega arith) _ c.run_once-ran.ensures _ c.in-Refused.is _ _ c.refusal.ensures
+returns-in-Refused c = is_refused _ _ _ c.loop.invariant.1 _ _ c.loop.invariant.0 (omega arith) _ c.run_once-ran.ensures _ c.in-Refused.is _ _ c.refused.ensures
 
 pub returns-in-Plan : goal.returns-in-Plan
 returns-in-Plan c = is_ended _ _ _ c.loop.invariant.1 _ _ c.loop.invariant.0 (omega arith) _ c.run_once-ran.ensures c.in-Plan.in-Plan-own.keys3 _ _ c.plan_lines.ensures
@@ -16,4 +17,5 @@ loop-preserved c = (
 )
 
 pub returns : goal.returns
-returns c = no_runs _ _ _ c.loop.invariant.1 _ _ c.loop.invariant.0 (omega arith) _ _ c.refusal-2.ensures
+unfolding refusal.number
+returns c = no_runs _ _ _ c.loop.invariant.1 _ _ c.loop.invariant.0 (omega arith) _ _ c.refused-2.ensures
