@@ -13,7 +13,7 @@ use model::{Answer, Batch, Ran, Refusal, Search, Tally};
 use node::{Kit, Reach, Row, Trail, Walk};
 use nodes::{Walked, visit_nodes};
 use pairs::{Pairs, find_pairs};
-use soundness::{Examined, Route, examine};
+use soundness::{Examined, examine};
 use starts::heaviest_of;
 use times::latency::raised_latency;
 use weights::Weights;
@@ -73,33 +73,8 @@ fn advance(search: Search, examined: Examined, budget: u32) -> Search
     let batch = search.batch;
     let best = search.best;
     let starts = search.starts;
-    let delays = examined.delays;
-    let m = usize::from(batch.m);
-    let code = heaviest_of(m, &delays);
-    let from = delays.from;
-    let to = delays.to;
-    let stays = examined.stays;
-    let earliest = examined.ends.earliest;
-    let latest = examined.ends.latest;
-    let mut kit = Kit {
-        jobs: usize::from(batch.n),
-        delays: m,
-        weights: Weights { from, to, code },
-        stays,
-        earliest,
-        latest,
-        first: raised_latency(0, &stays, &earliest),
-        clashes: examined.clashes,
-        pairs: Pairs {
-            pair: [0; 276],
-            held: [0; 276],
-            end: [0; 276],
-            count: 0,
-        },
-    };
-    let paired = taken_by_pairs(kit.clashes.count, budget);
-    find_pairs(&kit.clashes.codes, paired, &mut kit.pairs);
-    let Route { turns, depth } = examined.route;
+    let turns = examined.route.turns;
+    let depth = examined.route.depth;
     let no_row = Row {
         tag: 65535,
         low: Reach {
@@ -116,6 +91,30 @@ fn advance(search: Search, examined: Examined, budget: u32) -> Search
         },
         rows: [no_row; 32],
     };
+    let stays = examined.stays;
+    let earliest = examined.ends.earliest;
+    let latest = examined.ends.latest;
+    let m = usize::from(batch.m);
+    let mut kit = Kit {
+        jobs: usize::from(batch.n),
+        delays: m,
+        weights: examined.delays,
+        stays,
+        earliest,
+        latest,
+        first: raised_latency(0, &stays, &earliest),
+        clashes: examined.clashes,
+        pairs: Pairs {
+            pair: [0; 276],
+            held: [0; 276],
+            end: [0; 276],
+            count: 0,
+        },
+    };
+    let code = heaviest_of(m, &kit.weights);
+    kit.weights.code = code;
+    let paired = taken_by_pairs(kit.clashes.count, budget);
+    find_pairs(&kit.clashes.codes, paired, &mut kit.pairs);
     store_turns(&kit.clashes.codes, &trail.turns, depth, &mut trail.steps);
     let start = Walk {
         depth,
