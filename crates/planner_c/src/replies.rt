@@ -1,8 +1,8 @@
 // The answers as C gets them: numbers alone.
 ghost use Rattle.std.specs.Prelude.{◌≡◌};
-ghost use Rattle.planner_c.specs.Replies.{number_of, reply_of, text_of, judge_number};
+ghost use Rattle.planner_c.specs.Replies.{reply_of, text_of, judge_number};
 
-use model::{Answer, Judgement, Opening, Written};
+use model::{Answer, Judgement, Written};
 
 // The answer of a run. `kind` is 0 spent, 1 a plan, 2 no plan, 3 refused; a number that the answer has not is 0.
 #[repr(C)]
@@ -22,17 +22,7 @@ pub struct Text {
     pub refusal: u8,
 }
 
-// 0 where the file is opened, else the refusal. (No `From`: neither type is of this crate. The same holds of judging.)
-#[tactic(auto, unfolding(crate::specs::Replies::number_of))]
-pub fn number_of(answer: Opening) -> u8
-    ensures { result ≡ number_of answer }
-{
-    match answer {
-        Opening::Accepted => 0,
-        Opening::Refused(number) => number,
-    }
-}
-
+// The reply of a run's answer.
 impl From<Answer> for Reply {
     ghost from_gives = { λ answer reply. reply ≡ reply_of answer };
 
@@ -83,7 +73,7 @@ impl From<Written> for Text {
     }
 }
 
-// 0 where the plan text passes, else the refusal.
+// 0 where the plan text passes, else the refusal. (No `From`: neither type is of this crate.)
 #[tactic(auto, unfolding(crate::specs::Replies::judge_number))]
 pub fn judge_number(answer: Judgement) -> u8
     ensures { result ≡ judge_number answer }
