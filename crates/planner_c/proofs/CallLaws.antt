@@ -1,10 +1,13 @@
--- What each call by value yields, from what its parts do: the search that the record stands for, the planner's call, and its answer as numbers.
+-- What each call yields, from what its parts do: the search that the record stands for, the planner's call, and its answer as numbers.
 use mathlib.Core.Path.{◌≡◌, ◌∙◌, ap}
 use mathlib.Core.List.{List}
+use mathlib.Core.Logic.{◌⊎◌, inl, inr}
 use Prim.Native.Nat.{ℕ}
 use Rattle.model.specs.declared.Search.{Search}
 use Rattle.model.specs.declared.Opened.{Opened}
 use Rattle.model.specs.declared.Ran.{Ran}
+use Rattle.model.specs.declared.Answer.{Answer}
+use Rattle.model.specs.declared.Answer.TheVariants.{Spent, Plan, NoPlan}
 use Rattle.model.specs.Refusal.{Written}
 use Rattle.model.specs.Common.{Outcome}
 use Rattle.model.specs.Open.{opened}
@@ -13,7 +16,7 @@ use Rattle.model.specs.Text.{written}
 use Rattle.planner_c.specs.declared.records.Record.{Record}
 use Rattle.planner_c.specs.declared.replies.Reply.{Reply}
 use Rattle.planner_c.specs.declared.replies.Text.{Text}
-use Rattle.planner_c.specs.Records.{search_in}
+use Rattle.planner_c.specs.Records.{search_in, record_of}
 use Rattle.planner_c.specs.Replies.{number_of, reply_of, text_of}
 use Rattle.planner_c.specs.Calls.{record_opened, opened_as, opened_record, record_after, ran_as, ran_record, text_as, written_text}
 
@@ -31,6 +34,13 @@ pub record_ran :
 unfolding ran_record ran_as
 record_ran s budget list list' t r reply after e f p q =
     (λ i. ((p i, q i), list')) ∙ ap (ran_as s) f ∙ ap (λ (u : Search). ran_as s (ran u budget list)) e
+
+-- the record that is stored where a run is answered
+pub stored : (s : Record) (a : Answer) (t : Search) → ((x : ℕ) × (a ≡ Spent x)) ⊎ (((x : ℕ) × (y : ℕ) × (a ≡ Plan x y)) ⊎ ((x : ℕ) × (a ≡ NoPlan x))) → record_of t ≡ record_after s a t
+unfolding record_after
+stored s a t (inl (x, e)) = rw e
+stored s a t (inr (inl (x, y, e))) = rw e
+stored s a t (inr (inr (x, e))) = rw e
 
 -- writing the text that f says
 pub record_written :

@@ -52,6 +52,7 @@ impl From<Record> for Search {
 impl From<Search> for Record {
     ghost from_gives = { λ search state. state ≡ record_of search };
 
+    #[inline(never)]
     #[tactic(auto, unfolding(crate::specs::Records::record_of))]
     fn from(search: Search) -> Record {
         Record {

@@ -22,17 +22,7 @@ pub struct Text {
     pub refusal: u8,
 }
 
-// 0 where the file is opened, or the plan text passes, and else the refusal. (No `From`: neither type is of this crate.)
-#[tactic(auto, unfolding(crate::specs::Replies::number_of))]
-pub fn number_of(answer: Result<(), Refusal>) -> u8
-    ensures { result ≡ number_of answer }
-{
-    match answer {
-        Ok(()) => 0,
-        Err(refusal) => refusal.number(),
-    }
-}
-
+// The reply of a run's answer.
 impl From<Answer> for Reply {
     ghost from_gives = { λ answer reply. reply ≡ reply_of answer };
 
@@ -80,5 +70,16 @@ impl From<Result<usize, Refusal>> for Text {
                 refusal: refusal.number(),
             },
         }
+    }
+}
+
+// 0 where the plan text passes, else the refusal. (No `From`: neither type is of this crate.)
+#[tactic(auto, unfolding(crate::specs::Replies::number_of))]
+pub fn number_of(answer: Result<(), Refusal>) -> u8
+    ensures { result ≡ number_of answer }
+{
+    match answer {
+        Ok(()) => 0,
+        Err(refusal) => refusal.number(),
     }
 }

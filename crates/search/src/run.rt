@@ -1,5 +1,5 @@
 // A run: refusals 11 to 14 in turn, then nodes until the search has ended or the budget is used, and the answer.
-ghost use Rattle.std.specs.Prelude.{◌≡◌, true, false, not, ◌||◌, leb, length, ◌+◌, ◌≤◌};
+ghost use Rattle.std.specs.Prelude.{◌≡◌, true, false, not, ◌||◌, leb, ◌+◌, ◌≤◌};
 ghost use Rattle.model.specs.Search.{search_of, nodes};
 ghost use Rattle.model.specs.Sound.{sound};
 ghost use Rattle.model.specs.Run.{ran};
@@ -12,7 +12,7 @@ use model::{Answer, Batch, Ran, Refusal, Search, Tally};
 use node::{Kit, Reach, Row, Trail, Walk};
 use nodes::{Walked, visit_nodes};
 use pairs::{Pairs, find_pairs};
-use soundness::{Examined, Route, examine};
+use soundness::{Examined, examine};
 use starts::heaviest_of;
 use times::latency::raised_latency;
 use weights::Weights;
@@ -62,39 +62,18 @@ fn taken_by_pairs(count: usize, budget: u32) -> usize
 // A sound record that has not ended, after the budget's nodes. What they work on was examined; the latency of the earliest starts, the largest weight of each pair's delays,
 // the clashes by pairs and the turns' inequalities are found here.
 #[inline(never)]
-fn advance(search: &Search, examined: &Examined, budget: u32) -> Search
-    requires search_value { (sound search.now ≡ true) × (search.now.ended ≡ false) }
-    requires budget_bound { search.now.total + budget ≤ 100000000 }
-    requires prepared { Prepared search.now examined.now }
-    requires whole { (length search.now.path ≡ 1024) × (length examined.now.route.turns ≡ 1024) }
-    ensures { result ≡ nodes budget search.now }
+fn advance(search: Search, examined: Examined, budget: u32) -> Search
+    requires search_value { (sound search ≡ true) × (search.ended ≡ false) }
+    requires budget_bound { search.total + budget ≤ 100000000 }
+    requires prepared { Prepared search examined }
+    ensures { result ≡ nodes budget search }
 {
-    let m = usize::from(search.batch.m);
-    let code = heaviest_of(m, &examined.delays);
-    let from = examined.delays.from;
-    let to = examined.delays.to;
-    let stays = examined.stays;
-    let earliest = examined.ends.earliest;
-    let latest = examined.ends.latest;
-    let mut kit = Kit {
-        jobs: usize::from(search.batch.n),
-        delays: m,
-        weights: Weights { from, to, code },
-        stays,
-        earliest,
-        latest,
-        first: raised_latency(0, &stays, &earliest),
-        clashes: examined.clashes,
-        pairs: Pairs {
-            pair: [0; 276],
-            held: [0; 276],
-            end: [0; 276],
-            count: 0,
-        },
-    };
-    let paired = taken_by_pairs(kit.clashes.count, budget);
-    find_pairs(&kit.clashes.codes, paired, &mut kit.pairs);
-    let Route { turns, depth } = examined.route;
+    // Only fields are read of the two, and none is lent: else each would be copied whole to the stack.
+    let batch = search.batch;
+    let best = search.best;
+    let starts = search.starts;
+    let turns = examined.route.turns;
+    let depth = examined.route.depth;
     let no_row = Row {
         tag: 65535,
         low: Reach {
@@ -111,11 +90,34 @@ fn advance(search: &Search, examined: &Examined, budget: u32) -> Search
         },
         rows: [no_row; 32],
     };
+    let stays = examined.stays;
+    let earliest = examined.ends.earliest;
+    let latest = examined.ends.latest;
+    let m = usize::from(batch.m);
+    let mut kit = Kit {
+        jobs: usize::from(batch.n),
+        delays: m,
+        weights: examined.delays,
+        stays,
+        earliest,
+        latest,
+        first: raised_latency(0, &stays, &earliest),
+        clashes: examined.clashes,
+        pairs: Pairs {
+            pair: [0; 276],
+            held: [0; 276],
+            end: [0; 276],
+            count: 0,
+        },
+    };
+    let code = heaviest_of(m, &kit.weights);
+    kit.weights.code = code;
+    let paired = taken_by_pairs(kit.clashes.count, budget);
+    find_pairs(&kit.clashes.codes, paired, &mut kit.pairs);
     store_turns(&kit.clashes.codes, &trail.turns, depth, &mut trail.steps);
-    let starts = search.starts;
     let start = Walk {
         depth,
-        best: search.best,
+        best,
         starts,
         ended: false,
     };
@@ -124,7 +126,7 @@ fn advance(search: &Search, examined: &Examined, budget: u32) -> Search
         left: budget,
     };
     let walked = visit_nodes(&kit, &mut trail, start, tally);
-    rebuilt(search.batch, &trail.turns, walked)
+    rebuilt(batch, &trail.turns, walked)
 }
 
 // Whether a search that has not ended would pass the limit on total.
@@ -136,16 +138,15 @@ fn overdrawn(ended: bool, total: u32, budget: u32) -> bool
 }
 
 // A sound record after the budget's nodes; an ended search counts nothing, and nothing is made ready for no nodes.
-fn after_run(search: Search, examined: &Examined, budget: u32) -> Search
+fn after_run(search: Search, examined: Examined, budget: u32) -> Search
     requires search_value { (sound search ≡ true) × ((search.ended || leb (search.total + budget) 100000000) ≡ true) }
-    requires prepared { Prepared search examined.now }
-    requires whole { length examined.now.route.turns ≡ 1024 }
+    requires prepared { Prepared search examined }
     ensures { result ≡ nodes budget search }
 {
     if search.ended || budget == 0 {
         return search;
     }
-    advance(&search, examined, budget)
+    advance(search, examined, budget)
 }
 
 // A refusal leaves the record unchanged.
@@ -175,7 +176,7 @@ pub fn run_search(search: Search, budget: u32, list: &mut [u16]) -> Ran
     if overdrawn(search.ended, search.total, budget) {
         return refused(search, Refusal::Total);
     }
-    let after = after_run(search, &examined, budget);
+    let after = after_run(search, examined, budget);
     let answer = answered(&after, list);
     Ran {
         answer,

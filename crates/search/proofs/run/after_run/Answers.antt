@@ -1,7 +1,4 @@
 -- `run::after_run` meets its contract: an ended search stays as it is, and so does one that is given no nodes.
-use mathlib.Core.Path.{◌≡◌}
-use borrow.Author.Rules.{rules}
-use lib.ListN.{length}
 use Rattle.search.proofs.RunLaws.{has_room, over, no_nodes}
 use Rattle.search.proofs.run.after_run.Goals as goal
 use Rattle.search.proofs.run.after_run.Goals.{then-search-via-then-search, then-search-via-else-search+then-budget-eq0}
@@ -14,4 +11,4 @@ returns-then-search c =
     ]
 
 pub advance-requires : goal.advance-requires
-advance-requires c = let l : length c.args.search.path ≡ 1024 = search rules in record { search_value = (c.requires.search_value.0, c.if-search.false); budget_bound = has_room _ _ _ c.requires.search_value.1 c.if-search.false; prepared = c.requires.prepared; whole = (l, c.requires.whole) }
+advance-requires c = record { search_value = (c.requires.search_value.0, c.if-search.false); budget_bound = has_room _ _ _ c.requires.search_value.1 c.if-search.false; prepared = c.requires.prepared }

@@ -2,7 +2,6 @@
 use mathlib.Core.Path.{ap, sym, ◌∙◌}
 use mathlib.Core.Bool.{not}
 use native.Mathlib.Omega.{arith}
-use borrow.Author.Rules.{rules}
 use Rattle.model.specs.Refusal as refusal
 use Rattle.search.proofs.RunLaws.{ran_11, ran_12, ran_13, ran_14, ran_on, left_as, jobs_kept, sound_jobs}
 use Rattle.search.proofs.run.run_search.Goals as goal
@@ -30,7 +29,7 @@ returns-then-overdrawn c = let a = c.args in
     (ran_14 a.search a.budget a.list.now c.if-budget-gt1000000.false c.in-Some.ensures.0 (omega (arith, c.from.ensures, c.if-list-from.false)) _ c.overdrawn.ensures c.if-overdrawn.true)
 
 pub after_run-after-requires : goal.after_run-after-requires
-after_run-after-requires c = record { search_value = (c.in-Some.ensures.0, sym c.overdrawn.ensures ∙ ap not c.if-overdrawn.false); prepared = c.in-Some.ensures.1; whole = search rules }
+after_run-after-requires c = record { search_value = (c.in-Some.ensures.0, sym c.overdrawn.ensures ∙ ap not c.if-overdrawn.false); prepared = c.in-Some.ensures.1 }
 
 pub answered-answer-requires : goal.answered-answer-requires
 answered-answer-requires c = let n = jobs_kept _ _ _ c.after_run-after.ensures in
