@@ -65,9 +65,9 @@ impl From<Result<usize, Refusal>> for Text {
     fn from(answer: Result<usize, Refusal>) -> Text {
         match answer {
             Ok(length) => Text { length, refusal: 0 },
-            Err(refusal) => Text {
+            Err(reason) => Text {
                 length: 0,
-                refusal: refusal.number(),
+                refusal: reason.number(),
             },
         }
     }
