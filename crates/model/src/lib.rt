@@ -26,7 +26,8 @@ pub struct Job {
     pub masks: [u16; 16],
 }
 
-// A job's earliest and latest start. `lined` is 0 where the file has no line for them, and anything else where it has one.
+// A job's earliest and latest start. `lined` is 0 where the file has no line for them, and anything else where it has one: a number and no Option, since C's
+// record holds any bytes.
 #[repr(C)]
 #[derive(Clone, Copy, PartialEq, Eq)]
 pub struct Window {
@@ -57,7 +58,7 @@ pub struct Turn {
     pub side: u16,
 }
 
-// `best` is the incumbent's latency; its starts stand beside it, since the record keeps them, as bytes that no step looks at, without a best too.
+// `best` is the incumbent's latency. Its starts stand beside it and not in it: the record keeps them without a best too, as numbers that no step looks at.
 #[derive(Clone, Copy)]
 pub struct Search {
     pub batch: Batch,
@@ -122,10 +123,10 @@ pub fn fresh(batch: Batch) -> Search
     ensures { result ≡ fresh_search batch }
 {
     Search {
-        batch: batch,
+        batch,
         path: [EMPTY; 1024],
         best: None,
-        starts: [0u16; 24],
+        starts: [0; 24],
         total: 0,
         ended: false,
     }
