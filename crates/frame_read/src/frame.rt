@@ -3,6 +3,7 @@ ghost use Rattle.std.specs.Prelude.{◌≡◌, ◌+◌, ◌<◌, length, drop, S
 ghost use Rattle.std.proofs.Math.Option.{some};
 ghost use Rattle.model.specs.Line.{read_line, at as byte_of, wide as wide_of, frame_is};
 ghost use Rattle.lines.specs.Read.{line_at};
+ghost use Rattle.frame_read.specs.Frame.{frame_at, InFile};
 
 use lines::byte_at;
 use std::marker::Model;
@@ -32,11 +33,15 @@ impl<'a> Frame<'a> {
         requires { line_at file.now at ≡ Some end }
         ensures { read_line (drop at file.now) ≡ some (result, drop (end + 1) file.now) }
     {
-        Frame {
-            file,
-            at,
-            size: (end - at) / 2,
-        }
+        Frame::standing(file, at, (end - at) / 2)
+    }
+
+    // The frame of any digits: `size` bytes from `at`.
+    pub fn standing(file: &'a [u8], at: usize, size: usize) -> Frame<'a>
+        requires { InFile file.now at size }
+        ensures { result ≡ frame_at file.now at size }
+    {
+        Frame { file, at, size }
     }
 
     // Its first byte.
