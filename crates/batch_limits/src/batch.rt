@@ -7,7 +7,7 @@ use crate::further::{edition_pass, further_pass};
 use limits::{counts_ok, ticks_ok};
 use model::Batch;
 
-// Each job below n has 1 to 16 ticks.
+// Each job below n has 1 to 16 ticks. (One call of `all`, as in the other tests: a function for them all would be that call.)
 fn ticks_pass(batch: Batch) -> bool
     requires { batch.n ≤ 24 }
     ensures { result ≡ ticks_pass batch }

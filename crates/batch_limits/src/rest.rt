@@ -1,4 +1,5 @@
 // Kind A4 in a record from anywhere: no station rests more than 7 ticks.
+// (One call of `all` each: a function for them all would be that call.)
 ghost use Rattle.std.specs.Prelude.{◌≡◌};
 ghost use Rattle.batch_limits.specs.Further.{rests_pass, unrested};
 

@@ -1,4 +1,5 @@
 // Kind A3 in a record from anywhere: a job with a line has ends within their limits, and one without has 0 and 65,535.
+// (One call of `all` each: a function for them all would be that call.)
 ghost use Rattle.std.specs.Prelude.{◌≡◌, ◌≤◌};
 ghost use Rattle.batch_limits.specs.Further.{ends_pass, windows_pass, unlined};
 

@@ -40,7 +40,8 @@ pub fn put_list(out: &mut Output, list: &[u16]) {
     }
 }
 
-// Writes the plan or the batch, by the letter, into a buffer of a size, and puts the buffer behind the answer.
+// Writes the plan or the batch into a buffer of a size, and puts the buffer behind the answer. By the letter: one of two calls, and it is printed
+// too, so that a closure beside it would be no plainer.
 pub fn write(search: Search, letter: u8, size: usize, out: &mut Output) -> Option<Search> {
     if 4096 < size {
         return None;

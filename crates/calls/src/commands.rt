@@ -7,6 +7,7 @@ use crate::text::Output;
 use model::Search;
 
 // A line, one letter and what stands behind it: the record after its call, or none where it names no call.
+// The letter comes with the input and names no step that is stored: a match.
 pub fn call(search: Search, line: &[u8], out: &mut Output) -> Option<Search> {
     let letter = *line.first()?;
     match letter {

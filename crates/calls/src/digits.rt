@@ -20,7 +20,7 @@ pub fn read_file(line: &[u8]) -> Option<Text<65536>> {
     Some(file)
 }
 
-// The value of a digit, 0 to 9 and A to F.
+// The value of a digit, 0 to 9 and A to F. (Not lines' own, which gives another character 0, as the definition `byte_at` has it.)
 pub fn digit(byte: u8) -> Option<u8> {
     match byte {
         b'0'..=b'9' => Some(byte - b'0'),

@@ -18,7 +18,7 @@ pub fn numbers_of<const N: usize>(line: &[u8]) -> Option<[u32; N]> {
     Some(numbers)
 }
 
-// The number of decimal digits, at least one; none past the largest of 32 bits.
+// The number of decimal digits, at least one; none past the largest of 32 bits. (Not by `parse`, which takes a sign.)
 fn number_of(word: &[u8]) -> Option<u32> {
     if word.is_empty() {
         return None;

@@ -4,6 +4,7 @@
 use model::Search;
 
 // The record with one place set; none where there is no such field, place or value. A weight is 32,768 more than it is worth, and 65,536 sets no best.
+// The field's number comes with the input and names no step that is stored: a match.
 pub fn set(search: Search, [field, a, b, value]: [u32; 4]) -> Option<Search> {
     let mut next = search;
     let a = a as usize;

@@ -60,7 +60,7 @@ fn raised(weight: i16) -> u16 {
     weight.cast_unsigned() ^ 0x8000
 }
 
-// 0 for none, else one more than the latency.
+// 0 for none, else one more than the latency. (A match of two cases: `map_or` with a closure would be no plainer.)
 fn best_number(best: Option<u16>) -> u64 {
     match best {
         None => 0,

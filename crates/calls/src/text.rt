@@ -1,4 +1,5 @@
 // A text that is put together from its front, a line that is read or one that is written. What finds no room is left out.
+// An array with its length beside it: no heap.
 use std::fmt;
 
 #[derive(Drop)]
@@ -18,7 +19,7 @@ impl<const N: usize> Text<N> {
         }
     }
 
-    // The bytes so far.
+    // The bytes so far. (`min`, since no clause says that the length is at most N: an invariant for this one place would be no plainer.)
     pub fn as_bytes(&self) -> &[u8] {
         &self.bytes[..self.length.min(N)]
     }

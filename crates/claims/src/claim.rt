@@ -1,4 +1,6 @@
 // The lines of a plan text where they stand: the B0 line, and a B1 line.
+// Not by reading's `read_one`: there a line that is due and missing has a refusal of its own, and here every fault is the same None.
+// (A kind is its byte, as in the definitions `claim_head` and `claim_line`. Text and place stand apart, as in lines.)
 ghost use Rattle.std.specs.Prelude.{◌≤◌, length};
 ghost use Rattle.claims.specs.Claim.{ReadsHead, ReadsJob};
 

@@ -6,6 +6,8 @@ ghost use Rattle.claims.specs.JobLines.{lines_told, stored};
 use crate::claim::read_job;
 
 // How many they are, whether they name the jobs 0, 1, .. in order, and the starts of the first 24, with 0 in the places past them.
+// `ordered` is no Option around the starts: lines out of order are still lines (refusal 18, and not 17). The count goes on past the 24 places, so
+// that no slice's length could say it.
 #[derive(Clone, Copy)]
 pub struct Lines {
     pub count: usize,

@@ -15,7 +15,8 @@ fn is_met(code: u16, starts: &[u16; 24]) -> bool
     usize::from(starts[x / 64 % 32]) + 22 == usize::from(starts[x / 2048]) + x % 64
 }
 
-// The number of the first clash, of those that are listed, that is met. None below low is.
+// The number of the first clash, of those that are listed, that is met. None below low is. (`position` over the codes from low on would need low
+// added to its answer: no plainer.)
 pub fn first_met(clashes: &Clashes, low: usize, starts: &[u16; 24]) -> Option<u16>
     requires low_le_count { (low ≤ clashes.now.count) × (clashes.now.count ≤ 1024) }
     requires known { Known clashes.now.codes clashes.now.count }

@@ -16,7 +16,7 @@ pub struct Columns {
     pub weight: [i16; 128],
 }
 
-// The parts of a delay, each stored in its column at place k.
+// The parts of a delay, each stored in its column at place k. (The clause names the three arrays: one place of each changes.)
 fn store(columns: &mut Columns, k: usize, q: Delay)
     requires { k < 128 }
     ensures { columns.new ≡ record { from = set columns.old.from k q.from; to = set columns.old.to k q.to; weight = set columns.old.weight k q.weight } }

@@ -1,4 +1,5 @@
 // One job line: A1, p, and the job's p masks, which a loop puts.
+// (That p is at most 16 is asked in the contracts, and no invariant of a job: C's record holds any number.)
 ghost use Rattle.std.specs.Prelude.{◌≡◌, ◌+◌, ◌*◌, ◌≤◌, length};
 ghost use Rattle.model.specs.Common.{joined};
 ghost use Rattle.model.specs.Limits.{most_ticks};
@@ -18,7 +19,7 @@ pub fn put_job(buffer: &mut [u8], at: usize, job: Job) -> usize
     lines::put_end(buffer, end)
 }
 
-// A job's p masks.
+// A job's p masks. (The loop of three lines stands for each kind of line, as further_put says.)
 fn put_masks(buffer: &mut [u8], at: usize, job: Job) -> usize
     requires { (job.ticks ≤ most_ticks) × (at + 4 * job.ticks ≤ length buffer.old) }
     ensures { (result ≡ at + 4 * job.ticks) × (buffer.new ≡ overwritten buffer.old at (digits_of (joined two (masks_of job)))) }

@@ -1,5 +1,5 @@
 // One line of a text, put at a place of a buffer. Each function answers the next place. (Buffer and place stand apart: a struct of both would hold a `&mut`,
-// and its contracts would say no less, in more words.)
+// and its contracts would say no less, in more words. A kind is its byte, as in the definitions of the lines.)
 #![tactic(auto)]
 
 mod frame;

@@ -1,4 +1,5 @@
 // Whether starts are a valid plan of a batch, and their latency. A start may be any two bytes, and nothing here wraps.
+// (That the batch is within its limits stands in the contracts and in no type: the definition `open_file`, which opening promises, yields a plain Batch.)
 ghost use Rattle.std.specs.Prelude.{◌≡◌, true, ◌&&◌, ◌+◌, ◌<◌, get_or, leb, eqb};
 ghost use Rattle.model.specs.Common.{between, all, is_some};
 ghost use Rattle.model.specs.Batch.{delays_of};
@@ -24,7 +25,7 @@ fn is_kept(from: u8, to: u8, code: u16, starts: &[u16; 24]) -> bool
     usize::from(start_from) + 1000 <= usize::from(start_to) + usize::from(code)
 }
 
-// Each delay is kept.
+// Each delay is kept. (`all` over the numbers would need their bound in its closure: no plainer, here and in keeps_ends.)
 fn keeps_delays(batch: &Batch, starts: &[u16; 24]) -> bool
     requires { Within batch.now }
     ensures { result ≡ all (keeps starts.now) (delays_of batch.now) }
@@ -38,7 +39,7 @@ fn keeps_delays(batch: &Batch, starts: &[u16; 24]) -> bool
     true
 }
 
-// A start is within a job's ends.
+// A start is within a job's ends. (As a range with `contains` it would be as long.)
 fn is_within(window: Window, start: u16) -> bool
     ensures { result ≡ between window.earliest start window.latest }
 {

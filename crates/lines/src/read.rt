@@ -1,4 +1,7 @@
 // Reading a line where it stands: where it ends, if it is a line at all, and the byte of two of its digits.
+// (File and place stand apart, here and in the rooms that read files: a struct of both would be made anew for each line, and the clauses would
+// speak of the rest of the file, `drop at file.now`, all the same.)
+// (By hand and not by `from_str_radix`, which takes a sign and small letters.)
 ghost use Rattle.std.specs.Prelude.{◌≡◌, ◌+◌, ◌<◌, length};
 ghost use Rattle.lines.specs.Read.{line_at, byte_at, value, is_digit, digits_end, closes};
 
@@ -25,7 +28,7 @@ pub fn byte_at(file: &[u8], at: usize) -> u8
     high * 16 + low
 }
 
-// The first place at or after `at` without a digit.
+// The first place at or after `at` without a digit. (`at` may lie past the file's end: so `position` over the rest of the file is no plainer.)
 fn digits_end(file: &[u8], at: usize) -> usize
     ensures { result ≡ digits_end file.now at }
 {
@@ -51,7 +54,7 @@ fn is_digit(c: u8) -> bool
     matches!(c, b'0'..=b'9' | b'A'..=b'F')
 }
 
-// The value of a digit; 0 for another character.
+// The value of a digit; 0 for another character, and no None, as the definition `byte_at` has it.
 fn digit_value(c: u8) -> u8
     ensures { result ≡ value c }
 {

@@ -1,4 +1,5 @@
 // Writing a line where it is to stand: a byte or a number as digits, and the closing 0A. Each function answers the next place.
+// (Buffer and place stand apart, as frame_put says. By hand and not by `write!`: each clause says which bytes stand in the buffer, `overwritten`.)
 ghost use Rattle.std.specs.Prelude.{◌≡◌, [], ◌∷◌, ◌+◌, ◌*◌, ◌<◌, ◌≤◌, length};
 ghost use Rattle.model.specs.Line.{digit_of, digits_of, two, four};
 ghost use Rattle.lines.specs.Write.{overwritten};
@@ -50,7 +51,7 @@ fn put_bytes(buffer: &mut [u8], at: usize, bytes: &[u8]) -> usize
     next
 }
 
-// The digit of a value.
+// The digit of a value: 48 is the character 0, and 55 is 10 less than A.
 fn digit_of(v: u8) -> u8
     requires { v < 16 }
     ensures { result ≡ digit_of v }

@@ -38,6 +38,7 @@ pub struct Window {
 
 // The first n jobs with their windows and the first m delays count; the other places are never looked at. rests[s] is how many ticks station s
 // rests between two jobs, 0 where the file has no line for it.
+// Counts stand beside arrays, and the edition is a number: C's record holds them so.
 #[repr(C)]
 #[derive(Clone, Copy)]
 pub struct Batch {
@@ -50,7 +51,7 @@ pub struct Batch {
     pub rests: [u8; 16],
 }
 
-// A branching decision: the clash's number in the batch's list, and the side that is taken.
+// A branching decision: the clash's number in the batch's list, and the side that is taken, 0 or 1: a number, since C's record holds any.
 #[repr(C)]
 #[derive(Clone, Copy, PartialEq, Eq)]
 pub struct Turn {
@@ -58,7 +59,8 @@ pub struct Turn {
     pub side: u16,
 }
 
-// `best` is the incumbent's latency. Its starts stand beside it and not in it: the record keeps them without a best too, as numbers that no step looks at.
+// `best` is the incumbent's latency. Its starts stand beside it and not in it: the record keeps them without a best too, as numbers that no step looks
+// at (search_of).
 #[derive(Clone, Copy)]
 pub struct Search {
     pub batch: Batch,
@@ -78,13 +80,14 @@ pub enum Answer {
     Refused(Refusal),
 }
 
+// What a run yields: its answer, and beside it the record, where it is refused too (RunLeaves.refused).
 #[derive(Clone, Copy)]
 pub struct Ran {
     pub answer: Answer,
     pub search: Search,
 }
 
-// What opening leaves: a refused one the blank record.
+// What opening yields. Beside a refusal stands the blank record, and so it is no Result<Search, Refusal>: OpeningLeaves.refused names that record.
 #[derive(Clone, Copy)]
 pub struct Opened {
     pub answer: Result<(), Refusal>,
@@ -98,7 +101,7 @@ pub struct Tally {
     pub left: u32,
 }
 
-// A path's place without a turn.
+// A path's place without a turn: a Turn of its own and no Option, since C's record has the path as an array of turns.
 pub const EMPTY: Turn = Turn {
     clash: 65535,
     side: 0,

@@ -1,8 +1,8 @@
-// Why something is refused. Rooms hand a refusal on by `?`; the calls give it to their callers as its number.
+// Why something is refused. Rooms hand a refusal on, by `?`, and the calls give it to their callers.
 ghost use Rattle.std.specs.Prelude.{◌≡◌};
 ghost use Rattle.model.specs.Refusal.{number};
 
-// Each has the number beside it, in 01's table and in the requests.
+// In the order of their numbers, which 01's table and the change requests give.
 #[derive(Clone, Copy, PartialEq, Eq)]
 pub enum Refusal {
     Line,
@@ -29,7 +29,8 @@ pub enum Refusal {
 }
 
 impl Refusal {
-    // The number by which documents, texts and callers know it.
+    // The number by which documents, texts and C know it. A match, and no count of the variants by `as`: so each number stands beside its name, as in
+    // the definition `number`.
     #[tactic(auto, unfolding(crate::specs::Refusal::number))]
     pub fn number(self) -> u8
         ensures { result ≡ number self }

@@ -6,7 +6,7 @@ ghost use Rattle.model.specs.Open.{few_clashes};
 use clashes::{Clashes, list_clashes};
 use model::Batch;
 
-// D is at most 1,024.
+// D is at most 1,024. (Within stands in the contract and not in a type: the definition `read_file` yields a plain Batch.)
 pub fn few_clashes(batch: &Batch) -> bool
     requires { Within batch.now }
     ensures { result ≡ few_clashes batch.now }

@@ -22,7 +22,7 @@ pub fn open_batch(file: &[u8]) -> Result<Batch, Refusal>
     Ok(batch)
 }
 
-// The fresh search of a file that opens; beside a refusal stands the one blank record, since the theorems on opening speak of it.
+// The fresh search of a file that opens; beside a refusal stands the one blank record (demand 1, OpeningLeaves.refused).
 pub fn open_file(file: &[u8]) -> Opened
     ensures { result ≡ opened file.now }
 {

@@ -1,4 +1,4 @@
-// The planner's public calls. None asks anything of its caller: whatever is wrong with what it is given is refused, by the number that 01 or 02 gives it.
+// The planner's public calls. None asks anything of its caller: whatever is wrong with what it is given is refused, by what 01 or 02 says.
 #![tactic(auto)]
 
 ghost use Rattle.std.specs.Prelude.{◌≡◌};
@@ -9,7 +9,7 @@ ghost use Rattle.model.specs.Judge.{judged};
 
 use model::{Opened, Ran, Refusal, Search};
 
-// Opens a batch file: the fresh search of its batch, or a refusal, 1 to 10 or 20, and the blank record.
+// Opens a batch file: the fresh search of its batch, or a refusal, 1 to 10, 20 or 21, and the blank record.
 pub fn open(file: &[u8]) -> Opened
     ensures { result ≡ opened file.now }
 {
@@ -39,7 +39,7 @@ pub fn write_batch(search: Search, buffer: &mut [u8]) -> Result<usize, Refusal>
 }
 
 // Judges a plan text beside its batch file: passed where its lines name the batch's jobs in order, its starts are a valid plan and its latency is theirs; or a
-// refusal, the file's own, 1 to 10 or 20, or 17, 18 or 19.
+// refusal, the file's own, 1 to 10, 20 or 21, or 17, 18 or 19.
 pub fn judge(file: &[u8], text: &[u8]) -> Result<(), Refusal>
     ensures { result ≡ judged file.now text.now }
 {

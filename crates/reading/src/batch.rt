@@ -26,6 +26,7 @@ pub fn blank_batch() -> Batch
 }
 
 // What an edition has after its delays, from a place of the file: edition 01 nothing, and edition 02 its further lines.
+// (Edition and n are plain numbers, as in the definition `read_rest`: n's limit is asked in the clause.)
 fn read_rest(file: &[u8], at: usize, edition: u8, n: u8) -> Result<FurtherRead, Refusal>
     requires { (at ≤ length file.now) × (n ≤ 24) }
     ensures { told result ≡ further_told (read_rest edition n (drop at file.now)) }

@@ -1,4 +1,5 @@
 // Frames where they are due in a file: one, or as many as are asked for, one after the other.
+// (File and place stand apart, as in lines.)
 ghost use Rattle.std.specs.Prelude.{◌≡◌, ◌≤◌, ℕ, List, length, drop};
 ghost use Rattle.model.specs.Common.{Outcome};
 ghost use Rattle.model.specs.Open.{header, job, delay, read_one, read_all};
@@ -23,6 +24,7 @@ pub trait Kind {
 }
 
 // The header: the edition, n and m.
+// (Plain numbers, as the definition `header` has them.)
 #[derive(Clone, Copy)]
 pub struct HeaderLine;
 
@@ -80,7 +82,7 @@ pub fn read_one<K: Kind>(kind: &K, file: &[u8], at: usize) -> Result<(K::Item, u
     Ok((item, end + 1))
 }
 
-// As many as `count`, before blanks, and the place behind them.
+// As many as `count`, before blanks, and the place behind them. (Kind and count stand apart, as in the definition `read_all`.)
 pub fn read_all<K: Kind, const N: usize>(
     kind: &K,
     file: &[u8],

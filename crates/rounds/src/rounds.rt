@@ -72,7 +72,7 @@ fn round(table: &[[u16; 24]; 24], old: [u16; 24], fours: usize) -> [u16; 24]
 // k rounds more: starts and latency are raised in place, together. A round that changes nothing ends them, since no later one would change anything; so
 // does a latency at or above the bound. While they go on, no start is above 43,016. Whether a round changed nothing and no start passes its latest is
 // returned. The recursion on the falling round number is 01's. The answer is a flag, and not an Option with the starts: the contract says what stands in
-// `starts` and `latency` where it is false, too.
+// `starts` and `latency` where it is false, too. Eight parameters, which the recursion hands on: a struct of them would be for this one function.
 pub fn rounds(
     table: &[[u16; 24]; 24],
     stays: &[u8; 24],

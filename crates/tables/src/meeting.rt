@@ -30,6 +30,7 @@ pub fn tables_meet(first: &Places, second: &Job, k: usize) -> bool
     let last = first
         .end
         .min((usize::from(second.ticks) + k).saturating_sub(15));
+    // As `(from..last).any(..)`: tried, and the proof of one goal didn't close.
     for x in from..last {
         if share(first.masks[x], second.masks[x + 15 - k]) {
             return true;

@@ -16,7 +16,7 @@ fn last_tick(masks: &[u16]) -> Option<usize>
     masks.iter().rposition(|mask| *mask != 0)
 }
 
-// The number of a job's last non-empty tick, plus 1; 0 where it holds no station.
+// The number of a job's last non-empty tick, plus 1; 0 where it holds no station. (Its ticks' limit is asked here: C's record holds any number.)
 fn stay_of(job: Job) -> u8
     requires { job.ticks ≤ 16 }
     ensures { result ≡ stay job }

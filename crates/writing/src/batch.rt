@@ -1,5 +1,6 @@
 // The batch text: the header, the n job lines, the m delay lines, the further lines kind after kind, each put where the one before it
 // ends. Its length is worked out first, so that nothing is put into a buffer that is too short.
+// (Bounded stands in the contracts: soundness finds it of a plain record, and a type around the batch would be for these few functions alone.)
 ghost use Rattle.std.specs.Prelude.{◌≡◌, ◌+◌, ◌*◌, ◌≤◌, length};
 ghost use Rattle.model.specs.Common.{joined};
 ghost use Rattle.model.specs.Limits.{most_delays};
@@ -39,7 +40,7 @@ pub fn batch_length(batch: Batch) -> usize
     size
 }
 
-// The job lines.
+// The job lines. (The loop of three lines stands for each kind of line, as further_put says.)
 fn put_jobs(buffer: &mut [u8], at: usize, batch: Batch) -> usize
     requires bounded { Bounded batch }
     requires batch_in_bounds { at + length (joined job_line (jobs_of batch)) ≤ length buffer.old }
@@ -53,7 +54,7 @@ fn put_jobs(buffer: &mut [u8], at: usize, batch: Batch) -> usize
     next
 }
 
-// The delay lines.
+// The delay lines. (The loop: as for the job lines.)
 fn put_delays(buffer: &mut [u8], at: usize, batch: Batch) -> usize
     requires { (batch.m ≤ most_delays) × (at + 11 * batch.m ≤ length buffer.old) }
     ensures { (result ≡ at + 11 * batch.m) × (buffer.new ≡ overwritten buffer.old at (joined delay_line (delays_of batch))) }

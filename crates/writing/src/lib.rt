@@ -1,5 +1,6 @@
 // The batch text and the plan text of a record, into a buffer. Each line is put behind the one before it; nothing is written where
 // the text does not fit.
+// (Buffer and place stand apart, as frame_put says.)
 #![tactic(auto)]
 
 mod batch;
