@@ -6,7 +6,8 @@ use mathlib.Core.Bool.{Bool, true, false, ◌&&◌, not}
 use mathlib.Core.Option.{Option, none, some}
 use mathlib.Core.List.{List, [], ◌∷◌, map, foldr}
 use native.Mathlib.Omega.{arith}
-use lib.ListN.{length, get_or}
+use lib.ListN.{length, get_or, take}
+use lib.Seq.{get_or-take, length-take-le}
 use lib.IntN.{ℤ, sub_ℕ}
 use lib.Signed.{le_z}
 use lib.Dec.{leb}
@@ -32,10 +33,12 @@ use Rattle.clashes.specs.List.{list_of}
 use Rattle.clashes.specs.First.{Known, Unmet, met_of, first_code}
 use Rattle.clashes.proofs.FirstLaws.{unmet_none, first_agree}
 use Rattle.clashes.proofs.ListedLaws.{list_fits, list_known, first_listed}
-use Rattle.weights.specs.declared.Weights.{Weights}
+use Rattle.weights.specs.declared.Inequality.{Inequality}
+use Rattle.weights.specs.Inequality.{blank_inequality, nth}
 use Rattle.weights.specs.Code.{Limited, coded}
-use Rattle.weights.specs.Delays.{delays_read}
+use Rattle.weights.specs.Delays.{inequality_of, delays_read}
 use Rattle.weights.specs.Holds.{Holds}
+use Rattle.weights.proofs.ListedLaws.{listed_size}
 use Rattle.weights.proofs.CodeLaws.{plus_coded}
 use Rattle.weights.proofs.SoundLaws.{delays_length, delays_at, holds_read}
 use Rattle.times.proofs.EndsLaws.{window_at, window_told_lem}
@@ -56,9 +59,9 @@ unfolding all
 all_map f g [] = refl
 all_map f g (x ∷ xs) = ap (λ (rest : Bool). elim (f (g x)) [ true ↦ rest | false ↦ false ]) (all_map f g xs)
 
--- the test of delay k, by the arrays
-unfoldable pub kept_test : List ℕ → Weights 128 → ℕ → Bool
-kept_test us d k = leb (get_or us (get_or d.from k 0) 0 + 1000) (get_or us (get_or d.to k 0) 0 + get_or d.code k 0)
+-- the test of delay k, by the list
+unfoldable pub kept_test : List ℕ → List Inequality → ℕ → Bool
+kept_test us d k = leb (get_or us (nth d k).from 0 + 1000) (get_or us (nth d k).to 0 + (nth d k).code)
 
 -- a test of every number below m, of which k is asked: t is the answer
 module _ (f : ℕ → Bool) (k m : ℕ) (r : Bool) (left : all_from f k m ≡ r) (h : k < m) (t : Bool) (told : t ≡ f k) where
@@ -68,20 +71,41 @@ module _ (f : ℕ → Bool) (k m : ℕ) (r : Bool) (left : all_from f k m ≡ r)
   pub test_not : not t ≡ true → false ≡ r
   test_not e = all_failed f k m r left h (fails told e)
 
-module _ (b : Batch) (w : Within b) (d : Weights 128) (e : d ≡ delays_read b) where
-  held : Holds b.n (delays_of b) d
-  held = let s = within_sound b w in rw e (holds_read b s.few s.jobs s.weights)
+-- the first m of what is read
+module _ (b : Batch) (w : Within b) (d : List Inequality) (e : d ≡ delays_read b) (m : ℕ) (p : m ≡ b.m) where
+  abbrev items : List Inequality
+  items = take m d
+
+  items_length : length items ≡ m
+  unfolding delays_read
+  items_length = let s = within_sound b w in length-take-le m d (omega (arith, s.few, ap length e ∙ listed_size (λ k. inequality_of (delay_of b k)) 128 b.m))
+
+  read : Holds b.n (delays_of b) d
+  read = let s = within_sound b w in rw e (holds_read b s.few s.jobs s.weights)
+
+  held : Holds b.n (delays_of b) items
+  held =
+      record {
+        from = λ k l. rw (same k l) (read.from k l);
+        to = λ k l. rw (same k l) (read.to k l);
+        code = λ k l. rw (same k l) (read.code k l);
+        fits = read.fits;
+      }
+    where
+      same : (k : ℕ) → k < length (delays_of b) → nth items k ≡ nth d k
+      same k l = get_or-take m d k blank_inequality (omega (arith, delays_length b))
 
   in_list : (k : ℕ) → k < b.m → k < length (delays_of b)
   in_list k h = omega (arith, delays_length b)
 
   -- its jobs have places
-  pub kept_jobs : (k : ℕ) → k < b.m → (get_or d.from k 0 < 24) × (get_or d.to k 0 < 24)
+  pub kept_jobs : (k : ℕ) → k < length items → ((nth items k).from < 24) × ((nth items k).to < 24)
   kept_jobs k h =
-      let f = held.fits k (in_list k h) in
-      (omega (arith, held.from k (in_list k h), f.from, w.jobs.1), omega (arith, held.to k (in_list k h), f.to, w.jobs.1))
+      let l = in_list k (omega (arith, items_length)) in
+      let f = held.fits k l in
+      (omega (arith, held.from k l, f.from, w.jobs.1), omega (arith, held.to k l, f.to, w.jobs.1))
 
-  kept_at : (us : List ℕ) (k : ℕ) → k < b.m → kept_test us d k ≡ keeps us (delay_of b k)
+  kept_at : (us : List ℕ) (k : ℕ) → k < b.m → kept_test us items k ≡ keeps us (delay_of b k)
   unfolding kept_test keeps start
   kept_at us k h =
       let l = in_list k h in
@@ -89,10 +113,10 @@ module _ (b : Batch) (w : Within b) (d : Weights 128) (e : d ≡ delays_read b) 
       rw (held.from k l, held.to k l, held.code k l, e) (kept_code _ _ _ (subst (λ (q : Delay). Limited q.weight) e (held.fits k l).weight))
 
   -- what the loop has tested is what the definition asks
-  pub kept_all : (us : List ℕ) (m : ℕ) → m ≡ b.m → all_from (kept_test us d) 0 m ≡ all (keeps us) (delays_of b)
+  pub kept_all : (us : List ℕ) → all_from (kept_test us items) 0 (length items) ≡ all (keeps us) (delays_of b)
   unfolding delays_of
-  kept_all us m p =
-      all_start _ m ∙ ap (λ (n : ℕ). all (kept_test us d) (count 0 n)) p
+  kept_all us =
+      all_start _ (length items) ∙ ap (λ (n : ℕ). all (kept_test us items) (count 0 n)) (items_length ∙ p)
       ∙ sym (all_map (λ t. t) _ (count 0 b.m)) ∙ ap (all (λ t. t)) (listed_cong _ _ b.m (kept_at us))
       ∙ all_map (λ t. t) (λ k. keeps us (delay_of b k)) (count 0 b.m) ∙ sym (all_map (keeps us) (delay_of b) (count 0 b.m))
 

@@ -31,8 +31,8 @@ fn keeps_delays(batch: &Batch, starts: &[u16; 24]) -> bool
     ensures { result ≡ all (keeps starts.now) (delays_of batch.now) }
 {
     let delays = read_delays(*batch).unwrap();
-    for k in 0..usize::from(batch.m) {
-        if !is_kept(delays.from[k], delays.to[k], delays.code[k], starts) {
+    for q in &delays[..usize::from(batch.m)] {
+        if !is_kept(q.from, q.to, q.code, starts) {
             return false;
         }
     }

@@ -25,7 +25,8 @@ use Rattle.times.specs.Ends.{earliest_read}
 use Rattle.times.specs.Latency.{latency_of}
 use Rattle.times.proofs.LatencyLaws.{latency_set}
 use Rattle.times.proofs.EndsLaws.{earliest_is}
-use Rattle.weights.specs.declared.Weights.{Weights}
+use Rattle.weights.specs.declared.Inequality.{Inequality}
+use Rattle.weights.specs.Inequality.{nth}
 use Rattle.weights.specs.Code.{coded, Fits}
 use Rattle.weights.proofs.CodeLaws.{coded_most, plus_coded}
 use Rattle.node.specs.declared.kit.Reach.{Reach}
@@ -88,7 +89,7 @@ module _ (b : Batch) (few : b.n ≤ 24) where
           under = under_more base.jobs base.long base.under;
         }
 
-  module _ (stays turns : List ℕ) (rows : List Row) (steps : Weights 1024) (latency₀ : ℕ) (l : latency₀ ≡ latency_of stays (earliest_read b) 24) where
+  module _ (stays turns : List ℕ) (rows : List Row) (steps : List Inequality) (latency₀ : ℕ) (l : latency₀ ≡ latency_of stays (earliest_read b) 24) where
     -- the earliest starts, as a node begins with them
     abbrev first : Reach
     first = record { starts = earliest_read b; latency = latency₀ }
@@ -106,8 +107,8 @@ module _ (b : Batch) (few : b.n ≤ 24) where
     last_of last = turned (clashes b) (turn_of (get_or turns last 0))
 
     begins_raised : (last : ℕ) → Base b (inequalities (clashes b) b (turns_in turns last)) (get_or rows (last % 32) no_row).low.starts → (get_or rows (last % 32) no_row).low.latency ≡ latency_of stays (get_or rows (last % 32) no_row).low.starts 24
-        → Fits b.n (last_of last) → get_or steps.from last 0 ≡ (last_of last).from → get_or steps.to last 0 ≡ (last_of last).to → get_or steps.code last 0 ≡ coded (last_of last).weight
-        → Begins (suc last) (raised_row (get_or rows (last % 32) no_row).low (get_or steps.from last 0) (get_or steps.to last 0) (get_or steps.code last 0) stays)
+        → Fits b.n (last_of last) → (nth steps last).from ≡ (last_of last).from → (nth steps last).to ≡ (last_of last).to → (nth steps last).code ≡ coded (last_of last).weight
+        → Begins (suc last) (raised_row (get_or rows (last % 32) no_row).low (nth steps last).from (nth steps last).to (nth steps last).code stays)
     unfolding raised_row raised_start
     begins_raised last base g f p q r =
         rw (p, q, r)
@@ -123,14 +124,14 @@ module _ (b : Batch) (few : b.n ≤ 24) where
         long = ap length base.padded ∙ pad_length 24 0 base.jobs (omega (arith, base.long))
 
     pub begins : (depth : ℕ) → Kept b stays turns depth rows
-        → ((last : ℕ) → last < depth → Fits b.n (last_of last) × ((get_or steps.from last 0 ≡ (last_of last).from) × ((get_or steps.to last 0 ≡ (last_of last).to) × (get_or steps.code last 0 ≡ coded (last_of last).weight))))
+        → ((last : ℕ) → last < depth → Fits b.n (last_of last) × (((nth steps last).from ≡ (last_of last).from) × (((nth steps last).to ≡ (last_of last).to) × ((nth steps last).code ≡ coded (last_of last).weight))))
         → Begins depth (begun rows steps depth stays first)
     unfolding begun
     begins zero k s = begins_none 0
     begins (suc last) k s = go (eqb (get_or rows (last % 32) no_row).tag last) refl
       where
         go : (p : Bool) → eqb (get_or rows (last % 32) no_row).tag last ≡ p
-            → Begins (suc last) (if p then raised_row (get_or rows (last % 32) no_row).low (get_or steps.from last 0) (get_or steps.to last 0) (get_or steps.code last 0) stays else first)
+            → Begins (suc last) (if p then raised_row (get_or rows (last % 32) no_row).low (nth steps last).from (nth steps last).to (nth steps last).code stays else first)
         go true e =
             let tagged = eqb-true (get_or rows (last % 32) no_row).tag last e in
             let step = s last (omega arith) in

@@ -12,8 +12,8 @@ use Rattle.std.specs.Option.{unwrap_or}
 use Rattle.model.specs.Best.{Best}
 use Rattle.model.specs.Common.{count}
 use Rattle.model.specs.Search.{turned_back, back_to, back}
-use Rattle.weights.specs.declared.Weights.{Weights}
-use Rattle.weights.specs.Turn.{turn_from, turn_to, turn_code}
+use Rattle.weights.specs.declared.Inequality.{Inequality}
+use Rattle.weights.specs.Turn.{turn_inequality}
 use Rattle.node.specs.declared.kit.Kit.{Kit}
 use Rattle.node.specs.declared.kit.Trail.{Trail}
 use Rattle.node.specs.declared.kit.Walk.{Walk}
@@ -58,16 +58,16 @@ module _ (kit : Kit) (t : Trail) (walk : Walk) (s : Steps kit.clashes.codes t.tu
     unfolding place_at back back_to
     back_on = ap (back_to (incumbent walk.best walk.starts)) (some_left turns last) ∙ ap (back_to (incumbent walk.best walk.starts)) g.0
 
-    pub returned_on : (c x : ℕ) (steps' : Weights 1024) → x ≡ get_or turns last 0 → c ≡ x / 2
-        → steps' ≡ record { from = set t.steps.from last (turn_from (get_or kit.clashes.codes c 0) x); to = set t.steps.to last (turn_to (get_or kit.clashes.codes c 0) x); code = set t.steps.code last (turn_code (get_or kit.clashes.codes c 0) x) }
-        → Returned kit t walk (record { turns = turns; steps = steps'; rows = t.rows }) (record { depth = last + 1; best = walk.best; starts = walk.starts; ended = false })
-    returned_on c x steps' q r f =
+    pub returned_on : (c x : ℕ) (v : Inequality) → x ≡ get_or turns last 0 → c ≡ x / 2
+        → v ≡ turn_inequality (get_or kit.clashes.codes c 0) x
+        → Returned kit t walk (record { turns = turns; steps = set t.steps last v; rows = t.rows }) (record { depth = last + 1; best = walk.best; starts = walk.starts; ended = false })
+    returned_on c x v q r f =
         record {
           place = back_on;
           path = g.1.0;
           kin = g.1.1;
           steps =
-              steps_more kit.clashes.codes turns t.steps steps' last c x
+              steps_more kit.clashes.codes turns t.steps last c x v
               (steps_less kit.clashes.codes t.turns turns t.steps walk.depth last s (omega (arith, g.1.1.less)) (λ i l. g.1.1.same i (omega arith)))
               (omega (arith, g.1.0.deep)) q r f;
           rows = refl;

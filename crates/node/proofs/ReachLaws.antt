@@ -7,7 +7,7 @@ use Rattle.model.specs.declared.Batch.{Batch}
 use mathlib.Core.List.{List}
 use mathlib.Core.Option.{none}
 use native.Mathlib.Omega.{arith}
-use lib.ListN.{length}
+use lib.ListN.{length, take}
 use borrow.Author.Tests.{le-leb, lt-leb}
 use Rattle.model.specs.declared.Delay.{Delay}
 use Rattle.model.specs.declared.Turn.{Turn}
@@ -29,11 +29,13 @@ use Rattle.times.specs.Stays.{stays_read}
 use Rattle.times.specs.Latency.{latency_of}
 use Rattle.times.specs.Ends.{earliest_read, latest_read}
 use Rattle.times.proofs.LatencyLaws.{latency_padded}
-use Rattle.weights.specs.declared.Weights.{Weights}
+use Rattle.weights.specs.declared.Inequality.{Inequality}
 use Rattle.weights.specs.Delays.{delays_read}
 use Rattle.weights.proofs.SoundLaws.{delays_length}
 use Rattle.rounds.specs.Rounds.{Reached, rounds_of, timely}
+use Rattle.starts.specs.Table.{with_put, with_stored, empty_table}
 use Rattle.starts.specs.Least.{least_of}
+use Rattle.starts.proofs.TakeLaws.{least_taken}
 use Rattle.starts.proofs.PlaceLaws.{Tabled}
 use Rattle.starts.proofs.FromLaws.{Came}
 use Rattle.starts.proofs.PathTable.{path_table}
@@ -47,7 +49,7 @@ use Rattle.node.specs.Rows.{begun, Base}
 use Rattle.node.specs.Kit.{Works, Least}
 use Rattle.node.proofs.PathLaws.{turns_length}
 use Rattle.node.proofs.BeginLaws.{Begins, begins}
-use Rattle.node.proofs.WorksLaws.{passes, good_turns, counts, bound_small, held, turn_stored, turns_held}
+use Rattle.node.proofs.WorksLaws.{passes, good_turns, counts, bound_small, held, delays_room, turns_room, turn_stored, turns_held}
 
 -- starts and their latency, as a node has them
 abbrev low : Reached → Reach
@@ -59,9 +61,10 @@ unfolding bound_of prunes
 below_kept None l h = refl
 below_kept (Some k) l h = lt-leb k l h
 
--- the same answer for the same arrays
-least_same : (steps : Weights 1024) (depth bound latency : ℕ) {n n' m m' : ℕ} {w w' : Weights 128} {stays stays' latest latest' starts starts' : List ℕ} → n ≡ n' → m ≡ m' → w ≡ w' → stays ≡ stays' → latest ≡ latest' → starts ≡ starts'
-    → least_of n m w steps depth stays latest bound starts latency ≡ least_of n' m' w' steps depth stays' latest' bound starts' latency
+-- the same answer for the same lists
+least_same : (steps : List Inequality) (depth bound latency : ℕ) {n n' m m' : ℕ} {w w' : List Inequality} {stays stays' latest latest' starts starts' : List ℕ} → n ≡ n' → m ≡ m' → w ≡ w' → stays ≡ stays' → latest ≡ latest' → starts ≡ starts'
+    → timely latest (rounds_of (with_put steps (with_stored w empty_table m) depth) stays ((n + 3) / 4) bound starts latency n)
+    ≡ timely latest' (rounds_of (with_put steps (with_stored w' empty_table m') depth) stays' ((n' + 3) / 4) bound starts' latency n')
 least_same steps depth bound latency a b c f g h = rw (a, b, c, f, g, h)
 
 module _ (b : Batch) (kit : Kit) (t : Trail) (walk : Walk) (w : Works b kit t walk) where
@@ -180,12 +183,11 @@ module _ (b : Batch) (kit : Kit) (t : Trail) (walk : Walk) (w : Works b kit t wa
       unfolding timely
       told_found f = found f
 
-      -- what least_starts answers, over the arrays
-      is : (r : Reached) → r ≡ least_of kit.jobs kit.delays kit.weights t.steps walk.depth kit.stays kit.latest bound made.starts made.latency → r ≡ answer
-      unfolding least_of
-      is r h = h ∙ least_same t.steps walk.depth bound made.latency w.jobs w.few w.weights w.each_stays w.latest base.padded
+      -- what least_starts answers, over the lists
+      is : (r : Reached) → r ≡ least_of kit.jobs (take kit.delays kit.weights) (take walk.depth t.steps) kit.stays kit.latest bound made.starts made.latency → r ≡ answer
+      is r h = h ∙ least_taken kit.jobs kit.delays walk.depth kit.weights t.steps kit.stays kit.latest made.starts bound made.latency (delays_room b kit t walk w) (turns_room b kit t walk w) ∙ least_same t.steps walk.depth bound made.latency w.jobs w.few w.weights w.each_stays w.latest base.padded
 
-      pub reaches : (r : Reached) → r ≡ least_of kit.jobs kit.delays kit.weights t.steps walk.depth kit.stays kit.latest bound made.starts made.latency
+      pub reaches : (r : Reached) → r ≡ least_of kit.jobs (take kit.delays kit.weights) (take walk.depth t.steps) kit.stays kit.latest bound made.starts made.latency
           → (r.found ≡ true → Least b t walk (low r)) × (r.found ≡ false → next (clashes b) b (place_at t.turns walk) ≡ back ts (incumbent walk.best walk.starts))
       reaches r h =
           subst (λ (x : Reached). (x.found ≡ true → Least b t walk (low x)) × (x.found ≡ false → next (clashes b) b (place_at t.turns walk) ≡ back ts (incumbent walk.best walk.starts)))

@@ -16,7 +16,8 @@ use Rattle.model.proofs.SeqLaws.{listed_cong}
 use Rattle.times.specs.Fill.{Small}
 use Rattle.times.specs.Latency.{latency_of}
 use Rattle.times.proofs.FillLaws.{set_all, zeros_small}
-use Rattle.weights.specs.declared.Weights.{Weights}
+use Rattle.weights.specs.declared.Inequality.{Inequality}
+use Rattle.weights.specs.Inequality.{nth}
 use Rattle.node.specs.declared.kit.Reach.{Reach}
 use Rattle.node.specs.declared.kit.Row.{Row}
 use Rattle.node.specs.Walk.{turn_of, turns_in, Kin}
@@ -25,7 +26,7 @@ use Rattle.node.proofs.BackLaws.{turns_set}
 
 -- ---- the cases of the code
 
-module _ (rows : List Row) (steps : Weights 1024) (stays : List ℕ) (first : Reach) where
+module _ (rows : List Row) (steps : List Inequality) (stays : List ℕ) (first : Reach) where
   abbrev Begun : ℕ → Reach → Type 0
   Begun depth r = r ≡ begun rows steps depth stays first
 
@@ -46,8 +47,8 @@ module _ (rows : List Row) (steps : Weights 1024) (stays : List ℕ) (first : Re
         let z : d ≡ last = omega arith in rw (z, ne_eqb (get_or rows (last % 32) no_row).tag last (λ s. h (t ∙ s)))
 
     -- a row, raised by the last turn; the jobs, the larger sum and the latency are results of calls
-    pub begun_raised : (depth : ℕ) → (depth ≡ 0 → ⊥) → last ≡ depth - 1 → tag ≡ last → (i j x most wide latency : ℕ) → i ≡ get_or steps.from last 0 → j ≡ get_or steps.to last 0
-        → most ≡ max (get_or low.starts j 0) x → x ≡ get_or low.starts i 0 + 1000 - get_or steps.code last 0 → wide ≡ get_or stays j 0
+    pub begun_raised : (depth : ℕ) → (depth ≡ 0 → ⊥) → last ≡ depth - 1 → tag ≡ last → (i j x most wide latency : ℕ) → i ≡ (nth steps last).from → j ≡ (nth steps last).to
+        → most ≡ max (get_or low.starts j 0) x → x ≡ get_or low.starts i 0 + 1000 - (nth steps last).code → wide ≡ get_or stays j 0
         → latency ≡ max low.latency (most + wide) → Begun depth (record { starts = set low.starts j most; latency = latency })
     unfolding begun raised_row raised_start
     begun_raised zero more e h i j x most wide latency a b c s g l = absurd (more refl)

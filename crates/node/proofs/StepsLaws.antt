@@ -4,56 +4,26 @@ use mathlib.Core.Path.{◌≡◌, ◌∙◌}
 use mathlib.Core.List.{List}
 use native.Mathlib.Omega.{arith}
 use native.Mathlib.Decide.{ℕ_discrete}
-use lib.ListN.{length, get_or, set, replicate, length-set, length-replicate}
+use lib.ListN.{get_or, set, replicate, length-set, length-replicate}
 use lib.Seq.{get_or-set_same, get_or-set_other}
-use Rattle.weights.specs.declared.Weights.{Weights}
-use Rattle.weights.specs.Turn.{turn_from, turn_to, turn_code}
+use Rattle.weights.specs.declared.Inequality.{Inequality}
+use Rattle.weights.specs.Inequality.{blank_inequality, nth}
+use Rattle.weights.specs.Turn.{turn_inequality}
 use Rattle.node.specs.Walk.{Steps}
 
--- one place more of one array, where the turn and its clash's number are what the code has read
-place_more : (f : ℕ → ℕ → ℕ) (codes turns array : List ℕ) (d c x : ℕ) → d < length array → x ≡ get_or turns d 0 → c ≡ x / 2
-    → ((k : ℕ) → k < d → get_or array k 0 ≡ f (get_or codes (get_or turns k 0 / 2) 0) (get_or turns k 0))
-    → (k : ℕ) → k < d + 1 → get_or (set array d (f (get_or codes c 0) x)) k 0 ≡ f (get_or codes (get_or turns k 0 / 2) 0) (get_or turns k 0)
-place_more f codes turns array d c x h p q rest k l = go (ℕ_discrete k d)
+-- one more, where the turn and its clash's number are what the code has read
+pub steps_more : (codes turns : List ℕ) (w : List Inequality) (d c x : ℕ) (v : Inequality) → Steps codes turns d w → d < 1024 → x ≡ get_or turns d 0 → c ≡ x / 2
+    → v ≡ turn_inequality (get_or codes c 0) x → Steps codes turns (d + 1) (set w d v)
+steps_more codes turns w d c x v s h p q e = record { long = length-set w d v ∙ s.long; each = λ k l. go k l (ℕ_discrete k d) }
   where
-    go : Dec (k ≡ d) → get_or (set array d (f (get_or codes c 0) x)) k 0 ≡ f (get_or codes (get_or turns k 0 / 2) 0) (get_or turns k 0)
-    go (yes e) = rw (e, get_or-set_same array d (f (get_or codes c 0) x) 0 h, q, p)
-    go (no e) = get_or-set_other array d k _ 0 e ∙ rest k (omega arith)
-
-pub steps_more : (codes turns : List ℕ) (w w' : Weights 1024) (d c x : ℕ) → Steps codes turns d w → d < 1024 → x ≡ get_or turns d 0 → c ≡ x / 2
-    → w' ≡ record { from = set w.from d (turn_from (get_or codes c 0) x); to = set w.to d (turn_to (get_or codes c 0) x); code = set w.code d (turn_code (get_or codes c 0) x) }
-    → Steps codes turns (d + 1) w'
-steps_more codes turns w w' d c x s h p q e =
-    rw e
-    (record {
-      tails = length-set w.from d _ ∙ s.tails;
-      heads = length-set w.to d _ ∙ s.heads;
-      gaps = length-set w.code d _ ∙ s.gaps;
-      from = place_more turn_from codes turns w.from d c x (omega (arith, s.tails)) p q s.from;
-      to = place_more turn_to codes turns w.to d c x (omega (arith, s.heads)) p q s.to;
-      code = place_more turn_code codes turns w.code d c x (omega (arith, s.gaps)) p q s.code;
-    })
+    go : (k : ℕ) → k < d + 1 → Dec (k ≡ d) → nth (set w d v) k ≡ turn_inequality (get_or codes (get_or turns k 0 / 2) 0) (get_or turns k 0)
+    go k l (yes z) = rw (z, get_or-set_same w d v blank_inequality (omega (arith, s.long)), e, q, p)
+    go k l (no z) = get_or-set_other w d k v blank_inequality z ∙ s.each k (omega arith)
 
 -- none yet
-pub steps_none : (codes turns : List ℕ) → Steps codes turns 0 (record { from = replicate 1024 0; to = replicate 1024 0; code = replicate 1024 0 })
-steps_none codes turns =
-    record {
-      tails = length-replicate {A = ℕ} 1024 0;
-      heads = length-replicate {A = ℕ} 1024 0;
-      gaps = length-replicate {A = ℕ} 1024 0;
-      from = λ k l. absurd (omega arith);
-      to = λ k l. absurd (omega arith);
-      code = λ k l. absurd (omega arith);
-    }
+pub steps_none : (codes turns : List ℕ) → Steps codes turns 0 (replicate 1024 blank_inequality)
+steps_none codes turns = record { long = length-replicate 1024 blank_inequality; each = λ k l. absurd (omega arith) }
 
 -- fewer of them, of turns that are the same so far
-pub steps_less : (codes turns turns' : List ℕ) (w : Weights 1024) (d e : ℕ) → Steps codes turns d w → e ≤ d → ((k : ℕ) → k < e → get_or turns' k 0 ≡ get_or turns k 0) → Steps codes turns' e w
-steps_less codes turns turns' w d e s h same =
-    record {
-      tails = s.tails;
-      heads = s.heads;
-      gaps = s.gaps;
-      from = λ k l. rw (same k l) (s.from k (omega arith));
-      to = λ k l. rw (same k l) (s.to k (omega arith));
-      code = λ k l. rw (same k l) (s.code k (omega arith));
-    }
+pub steps_less : (codes turns turns' : List ℕ) (w : List Inequality) (d e : ℕ) → Steps codes turns d w → e ≤ d → ((k : ℕ) → k < e → get_or turns' k 0 ≡ get_or turns k 0) → Steps codes turns' e w
+steps_less codes turns turns' w d e s h same = record { long = s.long; each = λ k l. rw (same k l) (s.each k (omega arith)) }

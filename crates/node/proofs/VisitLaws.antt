@@ -31,8 +31,8 @@ use Rattle.pairs.specs.Pairs.{OfJobs, NoneMet}
 use Rattle.times.specs.Fill.{Small}
 use Rattle.times.specs.Latency.{latency_of}
 use Rattle.times.proofs.LatencyLaws.{latency_padded}
-use Rattle.weights.specs.declared.Weights.{Weights}
-use Rattle.weights.specs.Turn.{turn_from, turn_to, turn_code}
+use Rattle.weights.specs.declared.Inequality.{Inequality}
+use Rattle.weights.specs.Turn.{turn_inequality}
 use Rattle.rounds.proofs.RoundLaws.{below_small}
 use Rattle.node.specs.declared.kit.Kit.{Kit}
 use Rattle.node.specs.declared.kit.Trail.{Trail}
@@ -175,14 +175,14 @@ module _ (b : Batch) (kit : Kit) (t : Trail) (walk : Walk) (w : Works b kit t wa
             ∙ sym (decided ∙ ap (branch b place ss) met_is)
 
         -- the trail with the turn, its inequality and the node's row
-        pub stands_more : (c turn tag : ℕ) (steps' : Weights 1024) → c ≡ k → turn ≡ 2 * k → tag ≡ walk.depth
-            → steps' ≡ record { from = set t.steps.from walk.depth (turn_from (get_or kit.clashes.codes c 0) turn); to = set t.steps.to walk.depth (turn_to (get_or kit.clashes.codes c 0) turn); code = set t.steps.code walk.depth (turn_code (get_or kit.clashes.codes c 0) turn) }
-            → Stands b kit (record { turns = set t.turns walk.depth turn; steps = steps'; rows = set t.rows (walk.depth % 32) (record { tag = tag; low = x }) }) (walk.depth + 1)
-        stands_more c turn tag steps' p q g e =
+        pub stands_more : (c turn tag : ℕ) (v : Inequality) → c ≡ k → turn ≡ 2 * k → tag ≡ walk.depth
+            → v ≡ turn_inequality (get_or kit.clashes.codes c 0) turn
+            → Stands b kit (record { turns = set t.turns walk.depth turn; steps = set t.steps walk.depth v; rows = set t.rows (walk.depth % 32) (record { tag = tag; low = x }) }) (walk.depth + 1)
+        stands_more c turn tag v p q g e =
             record {
               path = path_set t.turns (walk.depth + 1) walk.depth turn w.stands.path met_room.1 refl (omega (arith, met_room.0));
               steps =
-                  steps_more kit.clashes.codes (set t.turns walk.depth turn) t.steps steps' walk.depth c turn
+                  steps_more kit.clashes.codes (set t.turns walk.depth turn) t.steps walk.depth c turn v
                   (steps_less kit.clashes.codes t.turns (set t.turns walk.depth turn) t.steps walk.depth walk.depth w.stands.steps (omega arith) (λ i h. get_or-set_other t.turns walk.depth i turn 0 (λ z. omega arith)))
                   met_room.1 (sym (get_or-set_same t.turns walk.depth turn 0 (omega (arith, w.stands.path.full, met_room.1)))) (omega arith) e;
               kept = rw g (kept_more b kit.stays t.turns walk.depth turn t.rows x w.stands.kept small l.small exact base);

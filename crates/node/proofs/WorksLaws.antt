@@ -36,12 +36,15 @@ use Rattle.clashes.proofs.ListedLaws.{ranged_at, listed_at as clash-listed-at, l
 use Rattle.times.specs.Fill.{Small}
 use Rattle.times.specs.Stays.{stays_read}
 use Rattle.times.proofs.LatencyLaws.{stays_small}
+use Rattle.weights.specs.declared.Inequality.{Inequality}
+use Rattle.weights.specs.Inequality.{nth}
 use Rattle.weights.specs.Code.{coded, Fits, ClashFits}
 use Rattle.weights.specs.Delays.{delays_read}
 use Rattle.weights.specs.Holds.{Holds}
 use Rattle.weights.proofs.TurnLaws.{clash_named, turn_side}
 use Rattle.weights.proofs.SoundLaws.{delays_length, holds_read}
 use Rattle.starts.specs.Table.{Placed}
+use Rattle.starts.proofs.TakeLaws.{heavy_length, heavy_placed}
 use Rattle.starts.proofs.HeldLaws.{held_placed}
 use Rattle.node.specs.declared.kit.Kit.{Kit}
 use Rattle.node.specs.declared.kit.Trail.{Trail}
@@ -183,7 +186,10 @@ module _ (b : Batch) (kit : Kit) (t : Trail) (walk : Walk) (w : Works b kit t wa
   delays_placed =
       let p = held_placed b.n counts.1 (delays_of b) (delays_read b) held in
       rw (w.weights, w.few)
-      (record { from = λ k h. p.from k (omega (arith, delays_length b)); to = λ k h. p.to k (omega (arith, delays_length b)) })
+      (heavy_placed (delays_read b) b.m counts.2 (record { from = λ k h. p.from k (omega (arith, delays_length b)); to = λ k h. p.to k (omega (arith, delays_length b)) }))
+
+  pub delays_room : kit.delays ≤ length kit.weights
+  delays_room = rw (w.weights, w.few) (omega (arith, heavy_length (delays_read b) b.m, counts.2))
 
   -- ---- turns
 
@@ -196,15 +202,15 @@ module _ (b : Batch) (kit : Kit) (t : Trail) (walk : Walk) (w : Works b kit t wa
   -- the inequality of turn k, as it is stored
   pub turn_stored : (k : ℕ) → k < depth
       → Fits b.n (turned (clashes b) (turn_of (get_or turns k 0)))
-      × ((get_or t.steps.from k 0 ≡ (turned (clashes b) (turn_of (get_or turns k 0))).from)
-      × ((get_or t.steps.to k 0 ≡ (turned (clashes b) (turn_of (get_or turns k 0))).to) × (get_or t.steps.code k 0 ≡ coded (turned (clashes b) (turn_of (get_or turns k 0))).weight)))
+      × (((nth t.steps k).from ≡ (turned (clashes b) (turn_of (get_or turns k 0))).from)
+      × (((nth t.steps k).to ≡ (turned (clashes b) (turn_of (get_or turns k 0))).to) × ((nth t.steps k).code ≡ coded (turned (clashes b) (turn_of (get_or turns k 0))).weight)))
   unfolding turned turn_of
   turn_stored k h =
       let s = w.stands.steps in
       let x = get_or turns k 0 in
       let e = list_code b kit.clashes w.listed few (x / 2) (named b turns walk w.stands.path w.is_sound k h) in
       let r = turn_side b.n counts.1 (get_or (clashes b) (x / 2) no_clash) (clash_fits b turns walk w.stands.path w.is_sound (x / 2) (named b turns walk w.stands.path w.is_sound k h)) (x % 2) x (omega arith) refl in
-      (r.1.1.1, (s.from k h ∙ rw e r.0, (s.to k h ∙ rw e r.1.0, s.code k h ∙ rw e r.1.1.0)))
+      (r.1.1.1, (ap (λ (q : Inequality). q.from) (s.each k h) ∙ rw e r.0, (ap (λ (q : Inequality). q.to) (s.each k h) ∙ rw e r.1.0, ap (λ (q : Inequality). q.code) (s.each k h) ∙ rw e r.1.1.0)))
 
   pub turns_held : Holds b.n (map (turned (clashes b)) (turns_in turns depth)) t.steps
   turns_held =
@@ -220,6 +226,9 @@ module _ (b : Batch) (kit : Kit) (t : Trail) (walk : Walk) (w : Works b kit t wa
 
       at : (k : ℕ) → k < depth → get_or (map (turned (clashes b)) (turns_in turns depth)) k blank_delay ≡ turned (clashes b) (turn_of (get_or turns k 0))
       at k h = mapped_at (turned (clashes b)) (turns_in turns depth) k blank_delay empty (omega (arith, turns_length turns depth)) ∙ ap (turned (clashes b)) (turn_at b turns walk w.stands.path w.is_sound k h)
+
+  pub turns_room : depth ≤ length t.steps
+  turns_room = omega (arith, w.stands.steps.long, w.stands.path.deep)
 
   pub turns_placed : Placed t.steps depth
   turns_placed =

@@ -31,7 +31,7 @@ pub record Stands (b : Batch) (kit : Kit) (t : Trail) (depth : ℕ) : Type 0 whe
 pub record Works (b : Batch) (kit : Kit) (t : Trail) (walk : Walk) : Type 0 where
   pub jobs : kit.jobs ≡ b.n
   pub few : kit.delays ≡ b.m
-  pub weights : kit.weights ≡ record { from = (delays_read b).from; to = (delays_read b).to; code = heaviest_of b.m (delays_read b) }
+  pub weights : kit.weights ≡ heaviest_of b.m (delays_read b)
   pub each_stays : kit.stays ≡ stays_read b
   pub earliest : kit.earliest ≡ earliest_read b
   pub latest : kit.latest ≡ latest_read b

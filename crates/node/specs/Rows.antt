@@ -8,7 +8,8 @@ use Rattle.model.specs.Search.{inequalities}
 use Rattle.model.proofs.UnderLaws.{Below}
 use Rattle.times.specs.Fill.{Small}
 use Rattle.times.specs.Latency.{latency_of}
-use Rattle.weights.specs.declared.Weights.{Weights}
+use Rattle.weights.specs.declared.Inequality.{Inequality}
+use Rattle.weights.specs.Inequality.{nth}
 use Rattle.node.specs.declared.kit.Reach.{Reach}
 use Rattle.node.specs.declared.kit.Row.{Row}
 use Rattle.node.specs.Walk.{turns_in}
@@ -38,11 +39,11 @@ raised_row old i j code stays =
     }
 
 -- the starts that a node at a depth begins with, and their latency: its parent's row, raised by its last turn, if that row is there
-unfoldable pub begun : List Row → Weights 1024 → ℕ → List ℕ → Reach → Reach
+unfoldable pub begun : List Row → List Inequality → ℕ → List ℕ → Reach → Reach
 begun rows steps zero stays first = first
 begun rows steps (suc last) stays first =
     if eqb (get_or rows (last % 32) no_row).tag last
-    then raised_row (get_or rows (last % 32) no_row).low (get_or steps.from last 0) (get_or steps.to last 0) (get_or steps.code last 0) stays
+    then raised_row (get_or rows (last % 32) no_row).low (nth steps last).from (nth steps last).to (nth steps last).code stays
     else first
 
 -- an array of 24 starts of a batch's jobs, at or above the earliest and at or below every starts that keep these inequalities and the ends

@@ -6,8 +6,9 @@ use Rattle.model.specs.Best.{Best}
 use Rattle.model.specs.Common.{count}
 use Rattle.model.specs.Search.{Incumbent, Place}
 use Rattle.clashes.specs.First.{Named}
-use Rattle.weights.specs.declared.Weights.{Weights}
-use Rattle.weights.specs.Turn.{turn_from, turn_to, turn_code}
+use Rattle.weights.specs.declared.Inequality.{Inequality}
+use Rattle.weights.specs.Inequality.{nth}
+use Rattle.weights.specs.Turn.{turn_inequality}
 use Rattle.node.specs.declared.kit.Walk.{Walk}
 
 -- the turn of a number
@@ -49,14 +50,10 @@ bound_of (Some k) = k
 pub record Coded (codes turns : List ℕ) (depth : ℕ) : Type 0 where
   pub named : (k : ℕ) → k < depth → Named (get_or codes (get_or turns k 0 / 2) 0)
 
--- the arrays of 1,024 places hold the inequalities of the first turns, as the table takes them
-pub record Steps (codes turns : List ℕ) (depth : ℕ) (w : Weights 1024) : Type 0 where
-  pub tails : length w.from ≡ 1024
-  pub heads : length w.to ≡ 1024
-  pub gaps : length w.code ≡ 1024
-  pub from : (k : ℕ) → k < depth → get_or w.from k 0 ≡ turn_from (get_or codes (get_or turns k 0 / 2) 0) (get_or turns k 0)
-  pub to : (k : ℕ) → k < depth → get_or w.to k 0 ≡ turn_to (get_or codes (get_or turns k 0 / 2) 0) (get_or turns k 0)
-  pub code : (k : ℕ) → k < depth → get_or w.code k 0 ≡ turn_code (get_or codes (get_or turns k 0 / 2) 0) (get_or turns k 0)
+-- an array of 1,024 places holds the inequalities of the first turns, as the table takes them
+pub record Steps (codes turns : List ℕ) (depth : ℕ) (w : List Inequality) : Type 0 where
+  pub long : length w ≡ 1024
+  pub each : (k : ℕ) → k < depth → nth w k ≡ turn_inequality (get_or codes (get_or turns k 0 / 2) 0) (get_or turns k 0)
 
 -- best with its starts, and the place where a search stands
 abbrev pub incumbent : Best → List ℕ → Incumbent

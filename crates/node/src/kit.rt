@@ -1,7 +1,7 @@
 // What a run works on: what stays as it is, what its nodes change, and where it stands.
 use clashes::Clashes;
 use pairs::Pairs;
-use weights::Weights;
+use weights::Inequality;
 
 // What does not change in a run: how many jobs and delays there are, the largest weight of each pair's delays, the jobs' stays and ends, the latency of the
 // earliest starts, the clashes' codes, and these by pairs of jobs. Arrays with a count beside: no heap, fixed memory.
@@ -9,7 +9,7 @@ use weights::Weights;
 pub struct Kit {
     pub jobs: usize,
     pub delays: usize,
-    pub weights: Weights<128>,
+    pub weights: [Inequality; 128],
     pub stays: [u8; 24],
     pub earliest: [u16; 24],
     pub latest: [u16; 24],
@@ -23,7 +23,7 @@ pub struct Kit {
 #[derive(Drop)]
 pub struct Trail {
     pub turns: [u16; 1024],
-    pub steps: Weights<1024>,
+    pub steps: [Inequality; 1024],
     pub rows: [Row; 32],
 }
 

@@ -26,10 +26,11 @@ pub fn begin(kit: &Kit, trail: &Trail, depth: usize) -> Reach
     if usize::from(row.tag) != last {
         return first;
     }
-    let i = usize::from(trail.steps.from[last]);
-    let j = usize::from(trail.steps.to[last]);
+    let step = trail.steps[last];
+    let i = usize::from(step.from);
+    let j = usize::from(step.to);
     let mut low = row.low;
-    let start = low.starts[j].max((low.starts[i] + 1000).saturating_sub(trail.steps.code[last]));
+    let start = low.starts[j].max((low.starts[i] + 1000).saturating_sub(step.code));
     low.starts[j] = start;
     low.latency = low.latency.max(start + u16::from(kit.stays[j]));
     low

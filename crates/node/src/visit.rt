@@ -10,7 +10,7 @@ use crate::rows::begin;
 use clashes::first_met;
 use pairs::unmet;
 use starts::least_starts;
-use weights::turn::store_turn;
+use weights::turn::turn_inequality;
 
 // A latency at or above this sends a node back: best's, or one above the largest that there is.
 fn bound_of(best: Option<u16>) -> u16
@@ -31,10 +31,8 @@ fn reach(kit: &Kit, trail: &Trail, walk: Walk) -> Option<Reach>
     }
     if !least_starts(
         kit.jobs,
-        kit.delays,
-        &kit.weights,
-        &trail.steps,
-        walk.depth,
+        &kit.weights[..kit.delays],
+        &trail.steps[..walk.depth],
         &kit.stays,
         &kit.latest,
         bound,
@@ -61,7 +59,7 @@ fn gone_back(kit: &Kit, trail: &mut Trail, walk: Walk) -> Walk
     };
     let turn = trail.turns[last];
     let clash = kit.clashes.codes[usize::from(turn / 2)];
-    store_turn(&mut trail.steps, last, clash, turn);
+    trail.steps[last] = turn_inequality(clash, turn);
     Walk {
         depth: last + 1,
         ended: false,
@@ -92,7 +90,7 @@ pub fn visit(kit: &Kit, trail: &mut Trail, walk: Walk) -> Walk
     let turn = 2 * clash;
     let code = kit.clashes.codes[usize::from(clash)];
     trail.turns[depth] = turn;
-    store_turn(&mut trail.steps, depth, code, turn);
+    trail.steps[depth] = turn_inequality(code, turn);
     trail.rows[depth % 32] = Row {
         tag: depth as u16,
         low: least,

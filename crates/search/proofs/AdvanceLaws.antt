@@ -23,7 +23,7 @@ use Rattle.pairs.specs.declared.pairs.Pairs.{Pairs}
 use Rattle.times.specs.Fill.{Small}
 use Rattle.times.specs.Latency.{latency_of, raised_by}
 use Rattle.times.proofs.EndsLaws.{earliest_small}
-use Rattle.weights.specs.declared.Weights.{Weights}
+use Rattle.weights.specs.declared.Inequality.{Inequality}
 use Rattle.weights.specs.Delays.{delays_read}
 use Rattle.weights.proofs.SoundLaws.{delays_length, holds_read}
 use Rattle.starts.specs.Table.{Placed}
@@ -99,13 +99,13 @@ module _ (s : Search) (x : Examined) (e : sound s ≡ true) (o : s.ended ≡ fal
   pub first_coded : Coded x.clashes.codes x.route.turns x.route.depth
   first_coded = turns_coded s.batch x.route.turns first first_path first_sound x.clashes p.clashes
 
-  pub first_works : (jobs m first_at paired : ℕ) (code : List ℕ) (pairs : Pairs) (steps : Weights 1024)
-      → jobs ≡ s.batch.n → m ≡ s.batch.m → first_at ≡ raised_by x.stays x.ends.earliest 0 → code ≡ heaviest_of m x.delays
+  pub first_works : (jobs m first_at paired : ℕ) (heavy : List Inequality) (pairs : Pairs) (steps : List Inequality)
+      → jobs ≡ s.batch.n → m ≡ s.batch.m → first_at ≡ raised_by x.stays x.ends.earliest 0 → heavy ≡ heaviest_of m x.delays
       → paired ≤ x.clashes.count → Paired x.clashes.codes pairs paired → Steps x.clashes.codes x.route.turns x.route.depth steps
       → Works s.batch
-      (record { jobs = jobs; delays = m; weights = record { from = x.delays.from; to = x.delays.to; code = code }; stays = x.stays; earliest = x.ends.earliest; latest = x.ends.latest; first = first_at; clashes = x.clashes; pairs = pairs })
+      (record { jobs = jobs; delays = m; weights = heavy; stays = x.stays; earliest = x.ends.earliest; latest = x.ends.latest; first = first_at; clashes = x.clashes; pairs = pairs })
       (record { turns = x.route.turns; steps = steps; rows = replicate 32 (record { tag = 65535; low = record { starts = replicate 24 0; latency = 0 } }) }) first
-  first_works jobs m first_at paired code pairs steps a c h k q r g =
+  first_works jobs m first_at paired heavy pairs steps a c h k q r g =
       record {
         jobs = a;
         few = c;

@@ -15,8 +15,8 @@ use pairs::{Pairs, find_pairs};
 use soundness::{Examined, examine};
 use starts::heaviest_of;
 use times::latency::raised_latency;
-use weights::Weights;
-use weights::turn::store_turn;
+use weights::turn::turn_inequality;
+use weights::{BLANK, Inequality};
 
 // The record where a run has come to.
 fn rebuilt(batch: Batch, turns: &[u16; 1024], walked: Walked) -> Search
@@ -41,14 +41,19 @@ fn rebuilt(batch: Batch, turns: &[u16; 1024], walked: Walked) -> Search
 }
 
 // The inequalities of the first depth turns, each stored at its place.
-fn store_turns(codes: &[u16; 1024], turns: &[u16; 1024], depth: usize, steps: &mut Weights<1024>)
+fn store_turns(
+    codes: &[u16; 1024],
+    turns: &[u16; 1024],
+    depth: usize,
+    steps: &mut [Inequality; 1024],
+)
     requires path { Path turns.now depth × Coded codes.now turns.now depth }
     requires none_yet { Steps codes.now turns.now 0 steps.old }
     ensures { Steps codes.now turns.now depth steps.new }
 {
     for k in 0..depth {
         let turn = turns[k];
-        store_turn(steps, k, codes[usize::from(turn / 2)], turn);
+        steps[k] = turn_inequality(codes[usize::from(turn / 2)], turn);
     }
 }
 
@@ -83,21 +88,19 @@ fn advance(search: Search, examined: Examined, budget: u32) -> Search
     };
     let mut trail = Trail {
         turns,
-        steps: Weights {
-            from: [0; 1024],
-            to: [0; 1024],
-            code: [0; 1024],
-        },
+        steps: [BLANK; 1024],
         rows: [no_row; 32],
     };
     let stays = examined.stays;
     let earliest = examined.ends.earliest;
     let latest = examined.ends.latest;
     let m = usize::from(batch.m);
+    let delays = examined.delays;
+    let weights = heaviest_of(m, &delays);
     let mut kit = Kit {
         jobs: usize::from(batch.n),
         delays: m,
-        weights: examined.delays,
+        weights,
         stays,
         earliest,
         latest,
@@ -110,8 +113,6 @@ fn advance(search: Search, examined: Examined, budget: u32) -> Search
             count: 0,
         },
     };
-    let code = heaviest_of(m, &kit.weights);
-    kit.weights.code = code;
     let paired = taken_by_pairs(kit.clashes.count, budget);
     find_pairs(&kit.clashes.codes, paired, &mut kit.pairs);
     store_turns(&kit.clashes.codes, &trail.turns, depth, &mut trail.steps);

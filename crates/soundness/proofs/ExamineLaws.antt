@@ -19,7 +19,7 @@ use Rattle.model.proofs.BoolLaws.{and, and_false}
 use Rattle.clashes.specs.declared.Clashes.{Clashes}
 use Rattle.clashes.specs.List.{list_of}
 use Rattle.clashes.proofs.ListedLaws.{list_count}
-use Rattle.weights.specs.declared.Weights.{Weights}
+use Rattle.weights.specs.declared.Inequality.{Inequality}
 use Rattle.weights.specs.Delays.{delays_pass, delays_read}
 use Rattle.times.specs.declared.ends.Ends.{Ends}
 use Rattle.times.specs.Stays.{stays_read}
@@ -100,7 +100,7 @@ module _ (s : Search) where
 pub counted : (s : Search) (l : Clashes) (r : Route) → l ≡ list_of s.batch → Routed s.path l.count r → Routed s.path (length (clashes s.batch)) r
 counted s l r e h = subst (λ (n : ℕ). Routed s.path n r) (list_count s.batch l e) h
 
-module _ (s : Search) (x met y : Bool) (d : Weights 128) (l : Clashes) (r : Route) (ends : Ends) (stays : List ℕ) where
+module _ (s : Search) (x met y : Bool) (d : List Inequality) (l : Clashes) (r : Route) (ends : Ends) (stays : List ℕ) where
   -- the batch and the state pass, and the record holds what a run works on
   pub examined : x ≡ limits_pass s.batch → x ≡ true → (delays_pass s.batch ≡ true) × (d ≡ delays_read s.batch) → l ≡ list_of s.batch → l.count ≤ 1024
       → met ≡ delays_met s.batch → met ≡ true → Routed s.path l.count r → y ≡ state_sound s → y ≡ true

@@ -14,7 +14,7 @@ use model::Search;
 use starts::met::read_delays_met;
 use times::ends::{Ends, ends_of};
 use times::stays::stays_of;
-use weights::Weights;
+use weights::Inequality;
 use weights::delays::read_delays;
 
 mod best;
@@ -27,7 +27,7 @@ pub use path::Route;
 #[derive(Clone, Copy)]
 pub struct Examined {
     pub clashes: Clashes,
-    pub delays: Weights<128>,
+    pub delays: [Inequality; 128],
     pub stays: [u8; 24],
     pub ends: Ends,
     pub route: Route,

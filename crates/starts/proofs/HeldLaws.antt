@@ -1,4 +1,4 @@
--- Arrays that hold a list of inequalities fill a table that holds the list: put in one after the other, or, where each has the smallest code of its
+-- Lists that hold the definitions' inequalities fill a table that holds the list: put in one after the other, or, where each has the smallest code of its
 -- pair, stored without a comparison.
 use mathlib.Core.Path.{◌≡◌, refl, sym, ◌∙◌, ap}
 use mathlib.Core.Logic.{◌⊎◌, inl, inr}
@@ -11,11 +11,12 @@ use lib.ListN.{length, get_or, take}
 use lib.Seq.{take-suc, take-length}
 use Rattle.model.specs.declared.Delay.{Delay}
 use Rattle.model.specs.Batch.{blank_delay}
-use Rattle.times.proofs.FillLaws.{filled_at}
-use Rattle.weights.specs.declared.Weights.{Weights}
+use Rattle.weights.specs.declared.Inequality.{Inequality}
+use Rattle.weights.specs.Inequality.{nth}
 use Rattle.weights.specs.Code.{coded}
 use Rattle.weights.specs.Holds.{Holds}
-use Rattle.starts.specs.Table.{store_in, with_put, with_stored, empty_table, heaviest_of, Placed}
+use Rattle.weights.proofs.ListedLaws.{nth_listed}
+use Rattle.starts.specs.Table.{store_in, with_put, with_stored, empty_table, lowered, heaviest_of, Placed}
 use Rattle.starts.proofs.PlaceLaws.{code_at, kept, code_snoc, Tabled, empty_tabled, put_tabled, store_rows, store_wide, store_same, store_other, other_pair}
 
 -- without inequalities a place is empty
@@ -23,9 +24,9 @@ code_none : (i j : ℕ) → code_at [] i j ≡ 65535
 unfolding code_at
 code_none i j = refl
 
--- ---- inequalities that arrays hold
+-- ---- inequalities that a list holds
 
-module _ {N : ℕ} (n : ℕ) (few : n ≤ 24) (qs : List Delay) (w : Weights N) (h : Holds n qs w) where
+module _ (n : ℕ) (few : n ≤ 24) (qs : List Delay) (w : List Inequality) (h : Holds n qs w) where
   -- inequality k
   abbrev item : ℕ → Delay
   item k = get_or qs k blank_delay
@@ -53,23 +54,19 @@ module _ {N : ℕ} (n : ℕ) (few : n ≤ 24) (qs : List Delay) (w : Weights N) 
   -- ---- stored, each with the smallest code of its pair
 
   module _ (most : length qs ≤ 128) where
-    -- the table, and the smallest codes
+    -- the table, and what is stored, with the smallest codes
     abbrev full : List (List ℕ)
     full = with_put w empty_table (length qs)
 
-    abbrev heavy : List ℕ
+    abbrev heavy : List Inequality
     heavy = heaviest_of (length qs) w
-
-    -- what is stored
-    abbrev lightened : Weights N
-    lightened = record { from = w.from; to = w.to; code = heavy }
 
     tabled : Tabled n full qs
     tabled = held_tabled empty_table [] (empty_tabled n)
 
-    heavy_at : (k : ℕ) → k < length qs → get_or heavy k 0 ≡ get_or (get_or full (get_or w.from k 0) []) (get_or w.to k 0) 0
-    unfolding heaviest_of
-    heavy_at k p = filled_at (λ k. get_or (get_or full (get_or w.from k 0) []) (get_or w.to k 0) 0) 128 (length qs) k most p
+    heavy_at : (k : ℕ) → k < length qs → nth heavy k ≡ record { from = (nth w k).from; to = (nth w k).to; code = get_or (get_or full (nth w k).from []) (nth w k).to 0 }
+    unfolding heaviest_of lowered
+    heavy_at k p = nth_listed (λ k. lowered full (nth w k)) 128 (length qs) k most p
 
     -- after k of them a place has the smallest code of its pair, or it is empty and none of the k is for its pair
     record Stored (k : ℕ) (t : List (List ℕ)) : Type 0 where
@@ -77,36 +74,39 @@ module _ {N : ℕ} (n : ℕ) (few : n ≤ 24) (qs : List Delay) (w : Weights N) 
       wide : (i : ℕ) → i < 24 → length (get_or t i []) ≡ 24
       place : (i j : ℕ) → i < 24 → j < 24 → (get_or (get_or t i []) j 0 ≡ code_at qs i j) ⊎ ((get_or (get_or t i []) j 0 ≡ 65535) × (code_at (take k qs) i j ≡ 65535))
 
-    stored : (k : ℕ) → k ≤ length qs → Stored k (with_stored lightened empty_table k)
+    stored : (k : ℕ) → k ≤ length qs → Stored k (with_stored heavy empty_table k)
     unfolding with_stored kept
     stored zero p =
         record { rows = (empty_tabled n).rows; wide = (empty_tabled n).wide; place = λ i j a b. inr ((empty_tabled n).place i j a b ∙ code_none i j, code_none i j) }
-    stored (suc k) p = go (stored k (omega arith))
+    stored (suc k) p = rw (heavy_at k l) (go (stored k (omega arith)))
       where
         l : k < length qs
         l = omega arith
 
         t : List (List ℕ)
-        t = with_stored lightened empty_table k
+        t = with_stored heavy empty_table k
 
-        from24 : get_or w.from k 0 < 24
+        code : ℕ
+        code = get_or (get_or full (nth w k).from []) (nth w k).to 0
+
+        from24 : (nth w k).from < 24
         from24 = held_placed.from k l
 
-        to24 : get_or w.to k 0 < 24
+        to24 : (nth w k).to < 24
         to24 = held_placed.to k l
 
-        go : Stored k t → Stored (suc k) (store_in t (get_or w.from k 0) (get_or w.to k 0) (get_or heavy k 0))
+        go : Stored k t → Stored (suc k) (store_in t (nth w k).from (nth w k).to code)
         go s =
             record {
               rows = store_rows t s.rows s.wide _ _ _ from24 to24;
               wide = store_wide t s.rows s.wide _ _ _ from24 to24;
-              place = λ i j a b. at i j a b (ℕ_discrete i (get_or w.from k 0)) (ℕ_discrete j (get_or w.to k 0));
+              place = λ i j a b. at i j a b (ℕ_discrete i (nth w k).from) (ℕ_discrete j (nth w k).to);
             }
           where
             new : List (List ℕ)
-            new = store_in t (get_or w.from k 0) (get_or w.to k 0) (get_or heavy k 0)
+            new = store_in t (nth w k).from (nth w k).to code
 
-            other : (i j : ℕ) → i < 24 → j < 24 → (i ≡ get_or w.from k 0 → j ≡ get_or w.to k 0 → ⊥) → (get_or (get_or new i []) j 0 ≡ code_at qs i j) ⊎ ((get_or (get_or new i []) j 0 ≡ 65535) × (code_at (take (suc k) qs) i j ≡ 65535))
+            other : (i j : ℕ) → i < 24 → j < 24 → (i ≡ (nth w k).from → j ≡ (nth w k).to → ⊥) → (get_or (get_or new i []) j 0 ≡ code_at qs i j) ⊎ ((get_or (get_or new i []) j 0 ≡ 65535) × (code_at (take (suc k) qs) i j ≡ 65535))
             other i j a b e = pick (s.place i j a b)
               where
                 same : get_or (get_or new i []) j 0 ≡ get_or (get_or t i []) j 0
@@ -122,13 +122,13 @@ module _ {N : ℕ} (n : ℕ) (few : n ≤ 24) (qs : List Delay) (w : Weights N) 
                 pick (inl g) = inl (same ∙ g)
                 pick (inr g) = inr (same ∙ g.0, unlike ∙ g.1)
 
-            at : (i j : ℕ) → i < 24 → j < 24 → Dec (i ≡ get_or w.from k 0) → Dec (j ≡ get_or w.to k 0) → (get_or (get_or new i []) j 0 ≡ code_at qs i j) ⊎ ((get_or (get_or new i []) j 0 ≡ 65535) × (code_at (take (suc k) qs) i j ≡ 65535))
-            at i j a b (yes e) (yes g) = inl (rw (e, g) (store_same t s.rows s.wide _ _ _ from24 to24 ∙ heavy_at k l ∙ tabled.place _ _ from24 to24))
+            at : (i j : ℕ) → i < 24 → j < 24 → Dec (i ≡ (nth w k).from) → Dec (j ≡ (nth w k).to) → (get_or (get_or new i []) j 0 ≡ code_at qs i j) ⊎ ((get_or (get_or new i []) j 0 ≡ 65535) × (code_at (take (suc k) qs) i j ≡ 65535))
+            at i j a b (yes e) (yes g) = inl (rw (e, g) (store_same t s.rows s.wide _ _ _ from24 to24 ∙ tabled.place _ _ from24 to24))
             at i j a b (yes e) (no g) = other i j a b (λ _ v. g v)
             at i j a b (no e) g = other i j a b (λ u _. e u)
 
     -- so in the end it is the table of all
-    pub heavy_tabled : Tabled n (with_stored lightened empty_table (length qs)) qs
+    pub heavy_tabled : Tabled n (with_stored heavy empty_table (length qs)) qs
     heavy_tabled =
         let s = stored (length qs) (omega arith) in
         record { rows = s.rows; wide = s.wide; place = λ i j a b. pick i j (s.place i j a b); fits = tabled.fits }

@@ -1,4 +1,4 @@
--- What a caller wants to know: where the arrays hold a batch's delays and a path's turns, they meet what `least_starts` asks, its table is the
+-- What a caller wants to know: where the lists hold a batch's delays and a path's turns, they meet what `least_starts` asks, its table is the
 -- definition's table, after every round its starts and their latency are the definition's, and its answer tells of the definition's least starts.
 use mathlib.Core.Path.{◌≡◌, sym, ◌∙◌, ap, subst}
 use mathlib.Core.Logic.{◌⊎◌, inl, inr}
@@ -28,7 +28,7 @@ use Rattle.times.specs.Latency.{latency_of}
 use Rattle.times.specs.Ends.{latest_read, none_late}
 use Rattle.times.proofs.EndsLaws.{time_is}
 use Rattle.times.proofs.LatencyLaws.{latency_padded}
-use Rattle.weights.specs.declared.Weights.{Weights}
+use Rattle.weights.specs.declared.Inequality.{Inequality}
 use Rattle.weights.specs.Code.{place_code}
 use Rattle.weights.specs.Holds.{Holds}
 use Rattle.rounds.specs.Rounds.{Reached, rounds_of, timely}
@@ -62,7 +62,7 @@ table_is n t qs h =
         ∙ sym (get_or-map (map place_code) (table qs) i [] ∙ ap (map place_code) (listed_at line [] 24 i p))
 
 -- it holds the path's inequalities
-pub path_tabled : (b : Batch) (cs : List Clash) (ts : List Turn) (m depth : ℕ) (w : Weights 128) (steps : Weights 1024) → b.n ≤ 24 → m ≤ 128 → m ≡ length (delays_of b) → depth ≡ length ts
+pub path_tabled : (b : Batch) (cs : List Clash) (ts : List Turn) (m depth : ℕ) (w steps : List Inequality) → b.n ≤ 24 → m ≤ 128 → m ≡ length (delays_of b) → depth ≡ length ts
     → Holds b.n (delays_of b) w → Holds b.n (map (turned cs) ts) steps
     → Tabled b.n (path_table m w steps depth) (inequalities cs b ts)
 unfolding inequalities
@@ -162,7 +162,7 @@ module _ (b : Batch) (few : b.n ≤ 24) (t : List (List ℕ)) (qs : List Delay) 
 
 -- 02, Q-2: whatever starts a node's rounds begin with, after every round, from 0 on, the running latency is the latency of that round's starts, whether
 -- or not there are least starts in the end. k rounds are taken, fewer only where one changed nothing or the latency came to the bound
-pub every_round : (b : Batch) (cs : List Clash) (ts : List Turn) (m depth : ℕ) (w : Weights 128) (steps : Weights 1024) → b.n ≤ 24 → m ≤ 128 → m ≡ length (delays_of b) → depth ≡ length ts
+pub every_round : (b : Batch) (cs : List Clash) (ts : List Turn) (m depth : ℕ) (w steps : List Inequality) → b.n ≤ 24 → m ≤ 128 → m ≡ length (delays_of b) → depth ≡ length ts
     → Holds b.n (delays_of b) w → Holds b.n (map (turned cs) ts) steps
     → (base : List ℕ) → length base ≡ b.n → (bound first : ℕ) → bound ≤ 43017 → first ≡ latency_of (stays_read b) (pad 24 0 base) 24 → first < bound → (k : ℕ) (r : Reached)
     → r ≡ rounds_of (path_table m w steps depth) (stays_read b) ((b.n + 3) / 4) bound (pad 24 0 base) first k

@@ -1,5 +1,6 @@
 -- Laws of this crate's definitions. `Law` has those that a caller wants.
 pub mod PlaceLaws
+pub mod TakeLaws
 pub mod HeldLaws
 pub mod RaisedLaws
 pub mod FromLaws

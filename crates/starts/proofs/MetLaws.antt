@@ -23,7 +23,7 @@ use Rattle.times.specs.Latency.{latency_of, raised_by}
 use Rattle.times.proofs.FillLaws.{filled_length}
 use Rattle.times.proofs.EndsLaws.{earliest_is}
 use Rattle.times.proofs.LatencyLaws.{latency_most}
-use Rattle.weights.specs.declared.Weights.{Weights}
+use Rattle.weights.specs.declared.Inequality.{Inequality}
 use Rattle.weights.specs.Delays.{delays_read, DelaysSound}
 use Rattle.weights.specs.Holds.{Holds}
 use Rattle.weights.proofs.SoundLaws.{delays_length, holds_read}
@@ -53,7 +53,7 @@ module _ (b : Batch) (soon : Small (earliest_read b) 20000) (starts : List ℕ) 
 
 -- ---- and what they come to
 
-module _ (b : Batch) (s : DelaysSound b) (d : Weights 128) (e : d ≡ delays_read b) (m : ℕ) (p : m ≡ b.m) where
+module _ (b : Batch) (s : DelaysSound b) (d : List Inequality) (e : d ≡ delays_read b) (m : ℕ) (p : m ≡ b.m) where
   held : Holds b.n (delays_of b) d
   held = rw e (holds_read b s.few s.jobs s.weights)
 

@@ -10,7 +10,7 @@ ghost use Rattle.starts.specs.Least.{least_of};
 
 use crate::table::{put_all, store_delays};
 use rounds::rounds::rounds;
-use weights::Weights;
+use weights::Inequality;
 
 mod heaviest;
 pub mod met;
@@ -18,33 +18,31 @@ mod table;
 
 pub use heaviest::heaviest_of;
 
-// Rounds from the starts that are lent, over the first m delays, each with the largest weight of its pair, and the first depth turns, whose
-// inequalities are the steps. The starts and their latency are raised in place, at most n times; a latency at or
+// Rounds from the starts that are lent, over the delays, each with the largest weight of its pair, and the turns, whose inequalities are the
+// steps. The starts and their latency are raised in place, at most n times; a latency at or
 // above the bound ends the rounds. Whether a round changed nothing and no start passes its latest is returned: the starts are then the least ones, if they were
 // at or below these and at or above the earliest.
 #[tactic(auto, unfolding(crate::specs::Table::empty_table, crate::specs::Least::least_of))]
 pub fn least_starts(
     n: usize,
-    m: usize,
-    delays: &Weights<128>,
-    steps: &Weights<1024>,
-    depth: usize,
+    delays: &[Inequality],
+    steps: &[Inequality],
     stays: &[u8; 24],
     latest: &[u16; 24],
     bound: u16,
     starts: &mut [u16; 24],
     latency: &mut u16,
 ) -> bool
-    requires n_bound { (n ≤ 24) × ((m ≤ 128) × (depth ≤ 1024)) }
-    requires placed { Placed delays.now m }
-    requires placed_2 { Placed steps.now depth }
+    requires n_bound { n ≤ 24 }
+    requires placed { Placed delays.now (length delays.now) }
+    requires placed_2 { Placed steps.now (length steps.now) }
     requires small { Small stays.now 16 × (length starts.old ≡ 24) }
     requires latency_value { (latency.old ≡ latency_of stays.now starts.old 24) × ((latency.old < bound) × (bound ≤ 43017)) }
-    ensures { record { starts = starts.new; latency = latency.new; found = result } ≡ least_of n m delays.now steps.now depth stays.now latest.now bound starts.old latency.old }
+    ensures { record { starts = starts.new; latency = latency.new; found = result } ≡ least_of n delays.now steps.now stays.now latest.now bound starts.old latency.old }
 {
     let mut table = [[65535u16; 24]; 24];
-    store_delays(&mut table, m, delays);
-    put_all(&mut table, depth, steps);
+    store_delays(&mut table, delays);
+    put_all(&mut table, steps);
     rounds(
         &table,
         stays,

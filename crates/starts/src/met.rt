@@ -11,11 +11,11 @@ use model::Batch;
 use rounds::rounds::rounds;
 use times::ends::{Ends, ends_of};
 use times::latency::raised_latency;
-use weights::Weights;
+use weights::Inequality;
 use weights::delays::read_delays;
 
 // With the delays and the ends as they were read from the batch. Only whether there are least starts is asked, so no job need stay.
-pub fn read_delays_met(batch: Batch, delays: &Weights<128>, ends: &Ends) -> bool
+pub fn read_delays_met(batch: Batch, delays: &[Inequality; 128], ends: &Ends) -> bool
     requires delays_sound { DelaysSound batch × Small (earliest_read batch) 20000 }
     requires delays_value { (delays.now ≡ delays_read batch) × ((ends.now.earliest ≡ earliest_read batch) × (ends.now.latest ≡ latest_read batch)) }
     ensures { result ≡ delays_met batch }
@@ -23,7 +23,7 @@ pub fn read_delays_met(batch: Batch, delays: &Weights<128>, ends: &Ends) -> bool
     let no_stays = [0u8; 24];
     let n = usize::from(batch.n);
     let mut table = [[65535u16; 24]; 24];
-    put_all(&mut table, usize::from(batch.m), delays);
+    put_all(&mut table, &delays[..usize::from(batch.m)]);
     let mut starts = ends.earliest;
     let mut latency = raised_latency(0, &no_stays, &starts);
     rounds(

@@ -1,9 +1,9 @@
 // The working table: 24 rows of 24 weights, each place empty or the largest weight for that pair. Row i has what starts in job i. Delays and turns
-// come as three parallel arrays: from, to, and the weight's code, 1,000 less the weight. An empty place holds 65,535.
-ghost use Rattle.std.specs.Prelude.{◌≡◌, ◌≤◌, ◌<◌};
+// come as lists of inequalities, with the weight's code, 1,000 less the weight. An empty place holds 65,535.
+ghost use Rattle.std.specs.Prelude.{◌≡◌, ◌<◌, length};
 ghost use Rattle.starts.specs.Table.{put_in, store_in, with_put, with_stored, Placed};
 
-use weights::Weights;
+use weights::Inequality;
 
 // A place keeps the smaller of what it has and a weight's code: the larger weight.
 #[tactic(auto, unfolding(crate::specs::Table::put_in, crate::specs::Table::store_in))]
@@ -28,26 +28,24 @@ fn store(table: &mut [[u16; 24]; 24], from: u8, to: u8, code: u16)
     table[usize::from(from)][usize::from(to)] = code;
 }
 
-// The first inequalities, as many as counted, each place keeping the largest: a batch's delays, or the turns taken.
+// A list's inequalities, each place keeping the largest: a batch's delays, or the turns taken.
 #[tactic(auto, unfolding(crate::specs::Table::with_put))]
-pub fn put_all<const N: usize>(table: &mut [[u16; 24]; 24], count: usize, weights: &Weights<N>)
-    requires count_bound { count ≤ N }
-    requires placed { Placed weights.now count }
-    ensures { table.new ≡ with_put weights.now table.old count }
+pub fn put_all(table: &mut [[u16; 24]; 24], list: &[Inequality])
+    requires { Placed list.now (length list.now) }
+    ensures { table.new ≡ with_put list.now table.old (length list.now) }
 {
-    for k in 0..count {
-        put(table, weights.from[k], weights.to[k], weights.code[k]);
+    for q in list {
+        put(table, q.from, q.to, q.code);
     }
 }
 
-// The first m delays, each place getting the last: without a comparison, for delays that have the smallest code of their pair.
+// A list's delays, each place getting the last: without a comparison, for delays that have the smallest code of their pair.
 #[tactic(auto, unfolding(crate::specs::Table::with_stored))]
-pub fn store_delays(table: &mut [[u16; 24]; 24], m: usize, delays: &Weights<128>)
-    requires m_bound { m ≤ 128 }
-    requires placed { Placed delays.now m }
-    ensures { table.new ≡ with_stored delays.now table.old m }
+pub fn store_delays(table: &mut [[u16; 24]; 24], list: &[Inequality])
+    requires { Placed list.now (length list.now) }
+    ensures { table.new ≡ with_stored list.now table.old (length list.now) }
 {
-    for k in 0..m {
-        store(table, delays.from[k], delays.to[k], delays.code[k]);
+    for q in list {
+        store(table, q.from, q.to, q.code);
     }
 }

@@ -1,5 +1,6 @@
 -- Laws of this crate's definitions.
 pub mod CodeLaws
+pub mod ListedLaws
 pub mod DelaysLaws
 pub mod TurnLaws
 pub mod SoundLaws

@@ -1,8 +1,8 @@
--- What the tests of a sound batch give a caller: the arrays that are read hold its delays.
+-- What the tests of a sound batch give a caller: the list that is read holds its delays.
 use mathlib.Core.Path.{◌≡◌, sym, ap, subst, ◌∙◌}
 use mathlib.Core.Bool.{Bool, true}
 use Rattle.std.specs.Prelude.{Option, Some, None}
-use mathlib.Core.List.{map}
+use mathlib.Core.List.{List, map}
 use Prim.Native.Nat.{ℕ, ◌≤◌, ◌<◌}
 use native.Mathlib.Omega.{arith}
 use lib.ListN.{length, get_or}
@@ -15,11 +15,12 @@ use Rattle.model.proofs.ListLaws.{all_each, index_in}
 use Rattle.model.proofs.BoolLaws.{and}
 use Rattle.model.proofs.SeqLaws.{listed_at, listed_length}
 use Rattle.model.proofs.LimitLaws.{jobs_iff}
-use Rattle.weights.specs.declared.Weights.{Weights}
+use Rattle.weights.specs.declared.Inequality.{Inequality}
+use Rattle.weights.specs.Inequality.{nth, listed}
 use Rattle.weights.specs.Code.{coded, Fits}
-use Rattle.weights.specs.Delays.{DelaysSound, delays_pass, delays_read, ReadsDelays}
+use Rattle.weights.specs.Delays.{inequality_of, DelaysSound, delays_pass, delays_read, ReadsDelays}
 use Rattle.weights.specs.Holds.{Holds}
-use Rattle.times.proofs.FillLaws.{filled_at}
+use Rattle.weights.proofs.ListedLaws.{nth_listed}
 use Rattle.weights.proofs.DelaysLaws.{weight_limited}
 
 -- ---- tests of every item
@@ -38,19 +39,22 @@ pub delays_at : (b : Batch) (k : ℕ) → k < b.m → get_or (delays_of b) k bla
 unfolding delays_of
 delays_at b k p = listed_at (delay_of b) blank_delay b.m k p
 
--- the arrays that are read from a sound batch hold its delays
+-- the list that is read from a sound batch holds its delays
 pub holds_read : (b : Batch) → b.m ≤ 128 → all (jobs_ok b.n) (delays_of b) ≡ true → all weight_ok (delays_of b) ≡ true → Holds b.n (delays_of b) (delays_read b)
 unfolding delays_of delays_read
 holds_read b few e g =
     record {
-      from = λ k p. filled_at (λ i. (delay_of b i).from) 128 b.m k few (in_m k p) ∙ sym (ap (λ (q : Delay). q.from) (at k (in_m k p)));
-      to = λ k p. filled_at (λ i. (delay_of b i).to) 128 b.m k few (in_m k p) ∙ sym (ap (λ (q : Delay). q.to) (at k (in_m k p)));
-      code = λ k p. filled_at (λ i. coded (delay_of b i).weight) 128 b.m k few (in_m k p) ∙ sym (ap (λ (q : Delay). coded q.weight) (at k (in_m k p)));
+      from = λ k p. ap (λ (x : Inequality). x.from) (read k (in_m k p)) ∙ sym (ap (λ (q : Delay). q.from) (at k (in_m k p)));
+      to = λ k p. ap (λ (x : Inequality). x.to) (read k (in_m k p)) ∙ sym (ap (λ (q : Delay). q.to) (at k (in_m k p)));
+      code = λ k p. ap (λ (x : Inequality). x.code) (read k (in_m k p)) ∙ sym (ap (λ (q : Delay). coded q.weight) (at k (in_m k p)));
       fits = λ k p. subst (Fits b.n) (sym (at k (in_m k p))) (fit k (in_m k p));
     }
   where
     in_m : (k : ℕ) → k < length (map (delay_of b) (count 0 b.m)) → k < b.m
     in_m k p = omega (arith, listed_length (delay_of b) b.m)
+
+    read : (k : ℕ) → k < b.m → nth (listed (λ i. inequality_of (delay_of b i)) 128 b.m) k ≡ inequality_of (delay_of b k)
+    read k p = nth_listed (λ i. inequality_of (delay_of b i)) 128 b.m k few p
 
     at : (k : ℕ) → k < b.m → get_or (map (delay_of b) (count 0 b.m)) k blank_delay ≡ delay_of b k
     at k p = listed_at (delay_of b) blank_delay b.m k p
@@ -66,6 +70,6 @@ unfolding delays_pass
 sound_pass b ok = and ok.jobs ok.weights
 
 -- and they are what reading it gives
-pub sound_read : (b : Batch) → DelaysSound b → (r : Option (Weights 128)) → ReadsDelays b r → r ≡ Some (delays_read b)
+pub sound_read : (b : Batch) → DelaysSound b → (r : Option (List Inequality)) → ReadsDelays b r → r ≡ Some (delays_read b)
 sound_read b ok (Some w) h = ap Some h.1
 sound_read b ok None h = cc (sound_pass b ok)

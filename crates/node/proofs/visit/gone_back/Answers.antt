@@ -12,4 +12,4 @@ returns-in_default c = returned_ended _ _ _ c.requires.steps _ c.in_default.ensu
 
 -- the last one left has its inequality stored
 pub returns : goal.returns
-returns c = returned_on _ _ _ c.requires.steps _ _ c.in-Some.ensures _ _ _ refl c.from.ensures c.store_turn.ensures
+returns c = returned_on _ _ _ c.requires.steps _ _ c.in-Some.ensures _ _ _ refl c.from.ensures c.turn_inequality.ensures

@@ -45,11 +45,13 @@ pub bounds-trail-depth : goal.bounds-trail-depth
 bounds-trail-depth c = let w = c.requires.1 in
     (met_room _ _ _ _ w _ (c.in-Some.ensures _ w) _ c.first_met-met.ensures _ c.in-Some-met.is).1
 
-pub store_turn-requires : goal.store_turn-requires
-store_turn-requires c = let w = c.requires.1 in (
-  (met_room _ _ _ _ w _ (c.in-Some.ensures _ w) _ c.first_met-met.ensures _ c.in-Some-met.is).1,
-  rw c.from.ensures (met_coded _ _ _ _ w _ (c.in-Some.ensures _ w) _ c.first_met-met.ensures _ c.in-Some-met.is),
-)
+pub bounds-trail-depth-2 : goal.bounds-trail-depth-2
+bounds-trail-depth-2 c = let w = c.requires.1 in
+    (met_room _ _ _ _ w _ (c.in-Some.ensures _ w) _ c.first_met-met.ensures _ c.in-Some-met.is).1
+
+pub turn_inequality-requires : goal.turn_inequality-requires
+turn_inequality-requires c = let w = c.requires.1 in
+    rw c.from.ensures (met_coded _ _ _ _ w _ (c.in-Some.ensures _ w) _ c.first_met-met.ensures _ c.in-Some-met.is)
 
 pub overflow_cast-trail : goal.overflow_cast-trail
 overflow_cast-trail c = let w = c.requires.1 in
@@ -64,5 +66,5 @@ returns c = let f = c.first_met-met.ensures in
     let k = c.in-Some-met.is in λ b w.
     let l = c.in-Some.ensures b w in (
       visit_met b _ _ _ w _ l _ f _ k,
-      stands_more b _ _ _ w _ l _ f _ k _ _ _ _ c.from.ensures refl refl c.store_turn.ensures,
+      stands_more b _ _ _ w _ l _ f _ k _ _ _ _ c.from.ensures refl refl c.turn_inequality.ensures,
     )

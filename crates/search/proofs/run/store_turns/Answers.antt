@@ -11,15 +11,12 @@ loop-k-init c = c.requires.none_yet
 pub bounds-codes-from : goal.bounds-codes-from
 bounds-codes-from c = omega (arith, c.from.ensures, c.requires.path.0.small c.loop-k.k c.loop-k-test.true)
 
-pub store_turn-requires : goal.store_turn-requires
-store_turn-requires c = (
-  omega (arith, c.loop-k-test.true, c.requires.path.0.deep),
-  rw c.from.ensures (c.requires.path.1.named c.loop-k.k c.loop-k-test.true),
-)
+pub turn_inequality-requires : goal.turn_inequality-requires
+turn_inequality-requires c = rw c.from.ensures (c.requires.path.1.named c.loop-k.k c.loop-k-test.true)
 
 -- one turn more
 pub loop-k-preserved : goal.loop-k-preserved
-loop-k-preserved c = steps_more _ _ _ _ _ _ _ c.loop-k.invariant (omega (arith, c.loop-k-test.true, c.requires.path.0.deep)) refl c.from.ensures c.store_turn.ensures
+loop-k-preserved c = steps_more _ _ _ _ _ _ _ c.loop-k.invariant (omega (arith, c.loop-k-test.true, c.requires.path.0.deep)) refl c.from.ensures c.turn_inequality.ensures
 
 pub returns : goal.returns
 returns c = let h : c.loop-k.k ≡ c.args.depth = omega arith in rw (← h) c.loop-k.invariant

@@ -1,5 +1,4 @@
 -- `read_delays` meets its contract: the delays of the columns are the batch's, and in each turn those below k have passed and are coded, and those from k on decide.
-use borrow.Author.Rules.{rules}
 use Rattle.weights.proofs.CodeLaws.{told_limited, told_coded}
 use Rattle.weights.proofs.DelaysLaws.{read_none, read_limited, read_more, read_failed, read_all, read_not}
 use Rattle.weights.proofs.delays.read_delays.Goals as goal
@@ -9,7 +8,7 @@ loop-k-init c = read_none _ _ _
 
 -- delay k fails
 pub returns-then-not-delay_ok : goal.returns-then-not-delay_ok
-returns-then-not-delay_ok c = read_not _ _ _ c.array_columns-columns.ensures c.from-m.ensures (search rules)
+returns-then-not-delay_ok c = read_not _ _ _ c.array_columns-columns.ensures c.from-m.ensures
     (read_failed _ _ _ _ _ c.loop-k.invariant c.loop-k-test.true _ _ c.delay_at-q.ensures c.delay_ok.ensures c.if-not-delay_ok.true)
 
 -- its weight has a code
@@ -23,4 +22,4 @@ loop-k-preserved c = read_more _ _ _ _ _ c.loop-k.invariant c.loop-k-test.true _
 
 -- all have passed
 pub returns : goal.returns
-returns c = read_all _ _ _ c.array_columns-columns.ensures c.from-m.ensures (search rules) _ _ c.loop-k.invariant c.loop-k-test.false
+returns c = read_all _ _ _ c.array_columns-columns.ensures c.from-m.ensures _ _ c.loop-k.invariant c.loop-k-test.false

@@ -3,4 +3,4 @@ use Rattle.weights.proofs.DelaysLaws.{ReadTo}
 use Rattle.weights.proofs.delays.read_delays.Given as goal
 
 abbrev pub invariant-loop-k : goal.invariant-loop-k
-invariant-loop-k l = ReadTo l.batch.n l.columns l.m l.code l.k
+invariant-loop-k l = ReadTo l.batch.n l.columns l.m l.list l.k
