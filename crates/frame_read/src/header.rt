@@ -7,7 +7,7 @@ use crate::frame::Frame;
 use limits::{counts_ok, edition_ok};
 use model::Refusal;
 
-// The edition, n and m.
+// The edition, n and m: plain numbers, as the definition `header` has them.
 pub fn header_frame(frame: &Frame<'_>) -> Result<(u8, u8, u8), Refusal>
     ensures { told result ≡ header frame.now }
 {

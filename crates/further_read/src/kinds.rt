@@ -9,6 +9,7 @@ use lines::line_at;
 use model::Refusal;
 
 // A kind whose numbers, a job's or a station's, rise from line to line: a line says what stands in its number's place.
+// (Not reading's `Kind`: nothing says beforehand how many lines there are, and each is read with the lowest number that it may have.)
 pub trait Kind {
     type Place: Copy;
 

@@ -4,6 +4,7 @@ ghost use Rattle.model.specs.Search.{turned_back};
 ghost use Rattle.node.specs.Walk.{Path, Kin, back_as, left_of, turns_in};
 
 // Where the turn stands that was set to side 1, if one is left. A turn is the number 2 * clash + side.
+// (Turns and depth stand apart, as a Trail and a Walk have them.)
 // rposition would say it in one call: tried, and the proof didn't close (its clause counts from the end).
 pub fn go_back(turns: &mut [u16; 1024], depth: usize) -> Option<usize>
     requires { Path turns.old depth }

@@ -33,7 +33,7 @@ pub fn visit_nodes(kit: &Kit, trail: &mut Trail, start: Walk, budget: Tally) -> 
 {
     let mut walk = start;
     let mut tally = budget;
-    // No range to go over: the search may end before the budget does.
+    // A `while`: the tally is the count, as 01 has it, and a range over the budget would count the nodes a second time.
     while 0 < tally.left && !walk.ended {
         count_node(&mut tally);
         walk = visit(kit, trail, walk);

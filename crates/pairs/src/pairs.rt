@@ -14,7 +14,7 @@ pub struct Pairs {
     pub count: usize,
 }
 
-// later - earlier where that is 0 to 63, and else 0, a bit that no pair has.
+// later - earlier where that is 0 to 63, and else 0, a bit that no pair has: a number and no Option, so that `unmet` looks at each pair's bit alike.
 fn bit_of(later: usize, earlier: usize) -> usize
     ensures { result ≡ bit_of later earlier }
 {

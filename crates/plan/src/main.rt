@@ -43,6 +43,7 @@ fn print(rt: &(impl Print + Eprint), batch: &[u8]) {
     }
 }
 
+// The first `length` bytes of the text, if it has them. (Text and length stand apart, as `plan_text` answers them.)
 fn write_text(rt: &impl Print, text: &[u8], length: usize) -> bool {
     if text.len() < length {
         return false;

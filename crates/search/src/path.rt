@@ -6,7 +6,7 @@ ghost use Rattle.node.specs.Walk.{turns_in};
 
 use model::{EMPTY, Turn};
 
-// The first depth turns, and empty places behind them.
+// The first depth turns, and empty places behind them. (Turns and depth stand apart, as a Trail and a Walk have them.)
 pub fn path_of(turns: &[u16; 1024], depth: usize) -> [Turn; 1024]
     requires { depth ≤ 1024 }
     ensures { result ≡ pad 1024 empty (turns_in turns.now depth) }

@@ -1,4 +1,5 @@
 // Best is none, or has a latency up to 43,016 and starts up to 43,000; starts past n are never looked at.
+// (n stands beside the starts: C's record holds 24 of them, and any n.)
 ghost use Rattle.std.specs.Prelude.{◌≡◌, ◌≤◌};
 ghost use Rattle.model.specs.Sound.{sound_best};
 ghost use Rattle.soundness.specs.Best.{starts_pass};

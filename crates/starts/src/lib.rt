@@ -22,6 +22,8 @@ pub use heaviest::heaviest_of;
 // steps. The starts and their latency are raised in place, at most n times; a latency at or
 // above the bound ends the rounds. Whether a round changed nothing and no start passes its latest is returned: the starts are then the least ones, if they were
 // at or below these and at or above the earliest.
+// Eight parameters: what they come from, the node's kit and trail, lies in a crate above, and a struct made anew at each node for this one call would be
+// no plainer. The answer is a flag, as that of `rounds`: the clause says what stands in `starts` and `latency` where it is false, too (least_of).
 #[tactic(auto, unfolding(crate::specs::Table::empty_table, crate::specs::Least::least_of))]
 pub fn least_starts(
     n: usize,

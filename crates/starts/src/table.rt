@@ -1,5 +1,6 @@
 // The working table: 24 rows of 24 weights, each place empty or the largest weight for that pair. Row i has what starts in job i. Delays and turns
-// come as lists of inequalities, with the weight's code, 1,000 less the weight. An empty place holds 65,535.
+// come as lists of inequalities, with the weight's code, 1,000 less the weight. An empty place holds 65,535 and is no Option: the rounds take it off as
+// any code, without a test.
 ghost use Rattle.std.specs.Prelude.{◌≡◌, ◌<◌, length};
 ghost use Rattle.starts.specs.Table.{put_in, store_in, with_put, with_stored, Placed};
 
@@ -40,6 +41,7 @@ pub fn put_all(table: &mut [[u16; 24]; 24], list: &[Inequality])
 }
 
 // A list's delays, each place getting the last: without a comparison, for delays that have the smallest code of their pair.
+// (Not `put_all`: the clause is `with_stored` and not `with_put`; each node stores the delays, and they need no comparison.)
 #[tactic(auto, unfolding(crate::specs::Table::with_stored))]
 pub fn store_delays(table: &mut [[u16; 24]; 24], list: &[Inequality])
     requires { Placed list.now (length list.now) }
