@@ -1,4 +1,5 @@
 -- Laws about the further lines, of one kind and of all. They serve the proofs here.
+pub mod Kind
 pub mod Places
 pub mod NumberedLaws
 pub mod NumberedKind
