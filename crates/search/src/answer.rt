@@ -4,7 +4,8 @@ ghost use Rattle.model.specs.Run.{answer_of, starts_after};
 
 use model::{Answer, Search};
 
-// The first n starts go to the front of the list, and the rest of it stays.
+// The first n starts go to the front of the list, and the rest of it stays. (n stands beside them, and its bound in the contracts: C's record holds 24
+// starts, and any n.)
 fn give_starts(starts: &[u16; 24], n: usize, list: &mut [u16])
     requires { (n ≤ 24) × (n ≤ length list.old) }
     ensures { list.new ≡ take n starts.now ++ drop n list.old }

@@ -40,7 +40,8 @@ fn rebuilt(batch: Batch, turns: &[u16; 1024], walked: Walked) -> Search
     }
 }
 
-// The inequalities of the first depth turns, each stored at its place.
+// The inequalities of the first depth turns, each stored at its place. (Turns and depth stand apart, as a Trail and a Walk have them, and so what holds of
+// both stands in the contract.)
 fn store_turns(
     codes: &[u16; 1024],
     turns: &[u16; 1024],
@@ -150,7 +151,7 @@ fn after_run(search: Search, examined: Examined, budget: u32) -> Search
     advance(search, examined, budget)
 }
 
-// A refusal leaves the record unchanged.
+// A refusal leaves the record unchanged. (The clause writes out the Ran: it has these two parts alone.)
 fn refused(search: Search, refusal: Refusal) -> Ran
     ensures { result ≡ record { answer = Answer.Refused refusal; search = search } }
 {
@@ -160,8 +161,8 @@ fn refused(search: Search, refusal: Refusal) -> Ran
     }
 }
 
-// A run on any record, with any budget and any list of starts. The refusals return a whole Ran as the answer does: with a Result and `?` there would be a
-// second one on the stack, 5.6 KB.
+// A run on any record, with any budget and any list of starts. The refusals return a whole Ran, as the answer does: the record
+// stands beside a refusal too (RunLeaves.refused). A Result inside would be turned into a Ran again, a second one on the stack, 5.6 KB.
 pub fn run_search(search: Search, budget: u32, list: &mut [u16]) -> Ran
     ensures { (result, list.new) ≡ ran search budget list.old }
 {
