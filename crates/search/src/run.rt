@@ -65,8 +65,8 @@ fn taken_by_pairs(count: usize, budget: u32) -> usize
     if budget < 8 { 0 } else { count }
 }
 
-// A sound record that has not ended, after the budget's nodes. What they work on was examined; the latency of the earliest starts, the largest weight of each pair's delays,
-// the clashes by pairs and the turns' inequalities are found here.
+// A sound record that has not ended, after the budget's nodes. What they work on was examined; the latency of the earliest starts, the largest weight of
+// each pair's delays, the clashes by pairs and the turns' inequalities are found here.
 #[inline(never)]
 fn advance(search: Search, examined: Examined, budget: u32) -> Search
     requires search_value { (sound search ≡ true) × (search.ended ≡ false) }
