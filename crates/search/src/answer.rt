@@ -10,7 +10,10 @@ fn give_starts(starts: &[u16; 24], n: usize, list: &mut [u16])
     requires { (n ≤ 24) × (n ≤ length list.old) }
     ensures { list.new ≡ take n starts.now ++ drop n list.old }
 {
-    list[..n].copy_from_slice(&starts[..n]);
+    // (No copy_from_slice, which asks for memmove: the library asks its linker for memcpy and memset alone.)
+    for k in 0..n {
+        list[k] = starts[k];
+    }
 }
 
 // Spent when the search has not ended, a plan when it has ended with a best, no plan when it has ended without.
