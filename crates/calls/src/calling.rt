@@ -1,6 +1,4 @@
 // The planner's calls, made on the present record: the record after it, or none where the line names no call. The answer goes into the line of output.
-// (Record and line of output stand apart: a call takes the record and gives the next one, and the line is only put to; methods of a struct of both would
-// be no plainer.)
 use crate::answers::{put_answer, put_verdict, put_written};
 use crate::digits::read_file;
 use crate::text::Output;

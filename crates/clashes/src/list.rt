@@ -19,7 +19,6 @@ fn put_code(clashes: &mut Clashes, code: usize)
 
 // Adds the clashes of two jobs, the first by its places, by rising distance; base is i * 2048 + j * 64. Further apart than the places and the second's
 // ticks reach, the tables do not meet.
-// (How far places and ticks reach is asked here, as tables says.)
 fn add_pair(clashes: &mut Clashes, first: &Places, second: &Job, base: usize)
     requires low_bound { (first.now.low ≤ 7) × ((7 ≤ first.now.end) × ((first.now.end ≤ 30) × (second.now.ticks ≤ 16))) }
     requires count_bound { (clashes.old.count ≤ 30000) × (base ≤ 48576) }

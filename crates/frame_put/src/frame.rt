@@ -1,5 +1,5 @@
 // The lines of both texts but for the job line, which has a loop, and the further lines.
-// (Each line is its own three to five calls: one function for all would take the bytes as a list, which each caller would first have to put together.
+// (Each line is its own three or four calls: one function for all would take the bytes as a list, which each caller would first have to put together.
 // The numbers of a line stand apart, as in the definitions `header_line` and `head_line`.)
 ghost use Rattle.std.specs.Prelude.{◌≡◌, [], ◌∷◌, ◌+◌, ◌≤◌, length};
 ghost use Rattle.model.specs.Line.{digits_of};

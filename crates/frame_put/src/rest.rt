@@ -1,4 +1,4 @@
-// One rest line: A4, a station and its rest ticks. (Its own few calls, as frame.rt says.)
+// One rest line: A4, a station and its rest ticks.
 ghost use Rattle.std.specs.Prelude.{◌≡◌, ◌+◌, ◌≤◌, length};
 ghost use Rattle.lines.specs.Write.{overwritten};
 ghost use Rattle.frame_put.specs.Rest.{rest_as};

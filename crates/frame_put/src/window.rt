@@ -1,4 +1,4 @@
-// One window line: A3, a job, its earliest and its latest start. (Its own few calls, as frame.rt says.)
+// One window line: A3, a job, its earliest and its latest start.
 ghost use Rattle.std.specs.Prelude.{◌≡◌, ◌+◌, ◌≤◌, length};
 ghost use Rattle.lines.specs.Write.{overwritten};
 ghost use Rattle.frame_put.specs.Window.{window_as};

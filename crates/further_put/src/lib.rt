@@ -1,5 +1,4 @@
 // The further lines of edition 02, put one behind the other, kind by kind, and how long they are.
-// (Buffer and place stand apart, as frame_put says.)
 #![tactic(auto)]
 
 mod rests;

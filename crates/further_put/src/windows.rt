@@ -1,5 +1,5 @@
 // The window lines of a batch, one for each job that has one, jobs in rising order. (A batch comes by value: a proof does not know how long the arrays of
-// structs are in one that is lent.) (Not one function with those of the rests: rests.rt says why.)
+// structs are in one that is lent.)
 // (That n is at most 24 is asked in the contracts, and no invariant of a batch: C's record holds any number.)
 ghost use Rattle.std.specs.Prelude.{◌≡◌, ◌==◌, not, ◌+◌, ◌*◌, ◌≤◌, length, count_by};
 ghost use Rattle.model.specs.Common.{joined};

@@ -26,8 +26,7 @@ impl Kind for Rests {
     }
 }
 
-// The rests of all stations, from a place of the file, and the place behind the lines. (As read_windows, but for the blank places and the kind, which are
-// all that the two say.)
+// The rests of all stations, from a place of the file, and the place behind the lines.
 pub fn read_rests(file: &[u8], at: usize) -> Result<([u8; 16], usize), Refusal>
     requires { at ≤ length file.now }
     ensures { told result ≡ rests_told file.now (read_rests (drop at file.now)) }

@@ -1,6 +1,5 @@
 // Whether starts are a valid plan of a batch, and their latency. A start may be any two bytes, and nothing here wraps.
-// (That the batch is within its limits stands in the contracts and in no type: the definition `open_file`, which opening promises, yields a plain Batch, and
-// a type around it would be for these few functions alone. Batch and starts stand apart, as in the definition `valid`.)
+// (That the batch is within its limits stands in the contracts and in no type: the definition `open_file`, which opening promises, yields a plain Batch.)
 ghost use Rattle.std.specs.Prelude.{◌≡◌, true, ◌&&◌, ◌+◌, ◌<◌, get_or, leb, eqb};
 ghost use Rattle.model.specs.Common.{between, all, is_some};
 ghost use Rattle.model.specs.Batch.{delays_of};
@@ -16,7 +15,7 @@ use model::{Batch, Window};
 use times::stays::stays_of;
 use weights::delays::read_delays;
 
-// t_j - t_i is at least w, as t_i + 1,000 is at most t_j + (1,000 - w). (From, to and code stand apart, as starts has them.)
+// t_j - t_i is at least w, as t_i + 1,000 is at most t_j + (1,000 - w).
 fn is_kept(from: u8, to: u8, code: u16, starts: &[u16; 24]) -> bool
     requires { (from < 24) × (to < 24) }
     ensures { result ≡ leb (get_or starts.now from 0 + 1000) (get_or starts.now to 0 + code) }
@@ -26,7 +25,7 @@ fn is_kept(from: u8, to: u8, code: u16, starts: &[u16; 24]) -> bool
     usize::from(start_from) + 1000 <= usize::from(start_to) + usize::from(code)
 }
 
-// Each delay is kept. (`all` would need the bound of its jobs in its closure, and in keeps_ends that of the numbers: no plainer.)
+// Each delay is kept. (`all` over the numbers would need their bound in its closure: no plainer, here and in keeps_ends.)
 fn keeps_delays(batch: &Batch, starts: &[u16; 24]) -> bool
     requires { Within batch.now }
     ensures { result ≡ all (keeps starts.now) (delays_of batch.now) }

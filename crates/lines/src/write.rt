@@ -23,8 +23,7 @@ pub fn put_end(buffer: &mut [u8], at: usize) -> usize
     at + 1
 }
 
-// A number of two bytes, high byte first. (Not one generic function with put_four: it would need a trait for `to_be_bytes` with its law, which is no
-// plainer than two calls.)
+// A number of two bytes, high byte first.
 pub fn put_two(buffer: &mut [u8], at: usize, number: u16) -> usize
     requires { at + 4 ≤ length buffer.old }
     ensures { (result ≡ at + 4) × (buffer.new ≡ overwritten buffer.old at (digits_of (two number))) }

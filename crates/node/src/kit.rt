@@ -1,13 +1,10 @@
-// What a run works on: what stays as it is, what its nodes change, and where it stands. (Three and not one: a kit is lent as it is, a trail to be changed,
-// and a walk goes by value. What holds of them, Ready, is a fact of all three, and so it stands in the contracts.)
+// What a run works on: what stays as it is, what its nodes change, and where it stands.
 use clashes::Clashes;
 use pairs::Pairs;
 use weights::Inequality;
 
 // What does not change in a run: how many jobs and delays there are, the largest weight of each pair's delays, the jobs' stays and ends, the latency of the
 // earliest starts, the clashes' codes, and these by pairs of jobs. Arrays with a count beside: no heap, fixed memory.
-// (Stays and ends stand as whole rows, each lent alone: a node begins at `earliest`, with the latency `first` that is found from it, and its rounds take
-// `latest`.)
 #[derive(Drop)]
 pub struct Kit {
     pub jobs: usize,

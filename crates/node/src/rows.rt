@@ -8,7 +8,7 @@ ghost use Rattle.node.specs.Rows.{SmallRing, begun};
 use crate::kit::{Kit, Reach, Trail};
 
 // The starts that a node at this depth begins with, and their latency: its parent's raised by its last turn, if its parent's row is there, and else the
-// earliest. (The clause writes out the earliest starts and their latency: a Kit has them apart.)
+// earliest.
 pub fn begin(kit: &Kit, trail: &Trail, depth: usize) -> Reach
     requires depth_bound { (depth ≤ 1024) × Placed trail.now.steps depth }
     requires small { Small kit.now.stays 16 × SmallRing trail.now.rows }

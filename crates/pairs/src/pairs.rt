@@ -5,8 +5,7 @@ ghost use Rattle.pairs.specs.Pairs.{bit_of, Room, OfJobs, Paired, NoneMet};
 
 // The first `count` places have a pair each: pair[q] is its jobs, as i * 32 + j, held[q] the bits of its distances, and end[q] the number of the codes
 // up to its last.
-// Fixed memory, no heap, and three arrays: an array of structs of the three would take 16 bytes a pair in place of 12, 1.1 KB of the stack, and its loop
-// would be no plainer.
+// No heap, and three arrays: an array of structs of the three would take 16 bytes a pair of the stack, in place of 12.
 #[derive(Clone, Copy)]
 pub struct Pairs {
     pub pair: [u16; 276],

@@ -1,5 +1,4 @@
 // From a batch file to the text that the program prints.
-// (That the buffer has the places for a plan text is asked in the contracts: plan_text's promise is of any slice that has them.)
 ghost use Rattle.std.specs.Prelude.{◌≡◌, ◌≤◌, length, replicate};
 ghost use Rattle.model.specs.Limits.{most_jobs, most_budget};
 ghost use Rattle.model.specs.Refusal.{number};
@@ -9,7 +8,7 @@ ghost use Rattle.model.specs.Program.{planned, printed, text_for, at_front};
 
 use model::{Answer, Ran, Refusal, Search};
 
-// The line BF and a refusal's number at the front of a buffer; its length. (The kind is its byte, as in the definition `refusal_line`.)
+// The line BF and a refusal's number at the front of a buffer; its length.
 fn refused(text: &mut [u8], refusal: Refusal) -> usize
     requires { 5 ≤ length text.old }
     ensures { (result, text.new) ≡ at_front (refusal_line (number refusal)) text.old }

@@ -17,7 +17,7 @@ pub struct Record {
     pub path: [Turn; 1024],
 }
 
-// Best as the two numbers say. (As two cases, as the definition has them: `then_some` would be no plainer.)
+// Best as the two numbers say.
 fn best_in(found: u8, latency: u16) -> Option<u16>
     ensures { result ≡ best_in found latency }
 {

@@ -31,7 +31,7 @@ fn turn_ok(t: Turn, count: usize, marks: &[bool; 1024]) -> bool
     clash < count && t.side <= 1 && !marks[clash]
 }
 
-// A turn as one number, half the memory of a Turn. (No `From`: neither type is of this crate.)
+// A turn as one number.
 fn code_of(t: Turn) -> u16
     requires { (t.clash < 1024) × (t.side ≤ 1) }
     ensures { result ≡ turn_code t }

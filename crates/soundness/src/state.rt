@@ -1,5 +1,4 @@
 // What soundness asks beside the batch and the turns: only empty places after the turns, no turn at all if the search has ended, the total, and best.
-// (That n is at most 24 is asked in the contract, and no invariant of a batch: C's record holds any number.)
 ghost use Rattle.std.specs.Prelude.{◌≡◌, ◌≤◌, length};
 ghost use Rattle.model.specs.Clash.{clashes};
 ghost use Rattle.model.specs.Sound.{sound_path};

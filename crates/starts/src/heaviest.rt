@@ -7,7 +7,6 @@ use weights::{BLANK, Inequality};
 
 // The first m delays, each with its code lowered to the smallest of its pair, that of the largest weight, and blank places past them: so they can be stored
 // in any order, without a comparison.
-// (m stands beside the array, as in the definition `heaviest_of`: what is given back is a whole array too, which a kit holds.)
 pub fn heaviest_of(m: usize, delays: &[Inequality; 128]) -> [Inequality; 128]
     requires m_bound { m ≤ 128 }
     requires placed { Placed delays.now m }

@@ -1,15 +1,12 @@
 // The working table: 24 rows of 24 weights, each place empty or the largest weight for that pair. Row i has what starts in job i. Delays and turns
 // come as lists of inequalities, with the weight's code, 1,000 less the weight. An empty place holds 65,535 and is no Option: the rounds take it off as
 // any code, without a test.
-// (That a list's jobs are below 24, Placed, is asked in the contracts, and is no invariant of an Inequality: read_delays yields the list of any batch,
-// with any n.)
 ghost use Rattle.std.specs.Prelude.{◌≡◌, ◌<◌, length};
 ghost use Rattle.starts.specs.Table.{put_in, store_in, with_put, with_stored, Placed};
 
 use weights::Inequality;
 
 // A place keeps the smaller of what it has and a weight's code: the larger weight.
-// (From, to and code stand apart, here and in the next, as in the definitions `put_in` and `store_in`.)
 #[tactic(auto, unfolding(crate::specs::Table::put_in, crate::specs::Table::store_in))]
 fn put(table: &mut [[u16; 24]; 24], from: u8, to: u8, code: u16)
     requires { (from < 24) × (to < 24) }

@@ -16,8 +16,7 @@ pub struct Rests {
 }
 
 // A table by its places, of which those from low on and before end count. (An array of all places and no slice, which would have to be lent from
-// somewhere: no heap. How far low and end reach is said in the contracts, and by no invariant: widened says it exactly, and each user asks for the part
-// that it needs.)
+// somewhere: no heap.)
 #[derive(Clone, Copy)]
 pub struct Places {
     pub low: usize,

@@ -1,7 +1,6 @@
 // A job's table widened by the rests: tick a stands at place a + 7, and a station stands at every place that is too close to a tick in which the job
 // holds it. Two jobs then clash exactly where the one's table, widened, meets the other's as it is.
-// (That a job has at most 16 ticks is asked in the contracts, and no invariant of a job: C's record holds any number. What the masks have to do with the
-// rests is said in the contracts too: a ghost field of Rests for the rests would be there for these few functions alone.)
+// (That a job has at most 16 ticks is asked in the contracts, and no invariant of a job: C's record holds any number.)
 ghost use Rattle.std.specs.Prelude.{◌≡◌, List, ℕ, ◌+◌, ◌-◌, ◌≤◌, ◌<◌};
 ghost use Rattle.tables.specs.Rest.{Resting, Longest, CloseAt, Closes, Rested, Near, Widens};
 

@@ -4,15 +4,13 @@ ghost use Rattle.times.specs.Ends.{earliest_read, latest_read, none_late};
 
 use model::Batch;
 
-// Those of the first n jobs, and 0 in the places past them. Two arrays and not one of pairs: rounds begin at the one, and in_time takes the other, each
-// as a whole row.
+// Those of the first n jobs, and 0 in the places past them.
 #[derive(Clone, Copy)]
 pub struct Ends {
     pub earliest: [u16; 24],
     pub latest: [u16; 24],
 }
 
-// (That n is at most 24 is asked in the contract, and no invariant of a batch: C's record holds any number.)
 pub fn ends_of(batch: Batch) -> Ends
     requires { batch.n ≤ 24 }
     ensures { (result.earliest ≡ earliest_read batch) × (result.latest ≡ latest_read batch) }

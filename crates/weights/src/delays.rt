@@ -18,7 +18,6 @@ fn code_of(w: i16) -> u16
 }
 
 // The first m delays, tested and coded, if each of them passes. The places past them are blank.
-// (That m is at most 128 is asked in the contract, and no invariant of a batch: C's record holds any number.)
 pub fn read_delays(batch: Batch) -> Option<[Inequality; 128]>
     requires { batch.m ≤ 128 }
     ensures { ReadsDelays batch result }

@@ -54,7 +54,7 @@ fn put_jobs(buffer: &mut [u8], at: usize, batch: Batch) -> usize
     next
 }
 
-// The delay lines. (The loop: as for the job lines. That m is at most 128 is asked in the contract: C's record holds any number.)
+// The delay lines. (The loop: as for the job lines.)
 fn put_delays(buffer: &mut [u8], at: usize, batch: Batch) -> usize
     requires { (batch.m ≤ most_delays) × (at + 11 * batch.m ≤ length buffer.old) }
     ensures { (result ≡ at + 11 * batch.m) × (buffer.new ≡ overwritten buffer.old at (joined delay_line (delays_of batch))) }

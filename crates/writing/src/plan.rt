@@ -7,7 +7,7 @@ ghost use Rattle.writing.specs.Plan.{found_lines, start_lines};
 
 use frame_put::{put_head, put_start};
 
-// The whole text at the buffer's front. (Latency, starts and total stand apart, here and in plan_text.rt, as in the definition `plan_lines`.)
+// The whole text at the buffer's front. (Latency, starts and total stand apart, as in the definition `plan_lines`.)
 pub fn put_plan(buffer: &mut [u8], n: u8, latency: u16, starts: [u16; 24], total: u32) -> usize
     requires { (n ≤ most_jobs) × (19 + 9 * n ≤ length buffer.old) }
     ensures { (result ≡ 19 + 9 * n) × (buffer.new ≡ overwritten buffer.old 0 (found_lines n latency starts total)) }
