@@ -9,16 +9,20 @@ use Rattle.model.specs.declared.Batch.{Batch}
 use Rattle.model.specs.declared.Search.{Search}
 use Rattle.model.specs.declared.Opened.{Opened}
 use Rattle.model.specs.declared.Ran.{Ran}
-use Rattle.model.specs.Refusal.{Written}
-use Rattle.model.specs.Common.{Outcome, refuse, accept}
+use Rattle.std.specs.Prelude.{Result, Ok, Err}
+use Rattle.model.specs.declared.refusal.Refusal.{Refusal}
+use Rattle.model.specs.Refusal.{number, told, Written}
+use Rattle.model.specs.Common.{Outcome, refuse, accept, ◌>>=◌}
 use Rattle.model.specs.Search.{search_of, fresh_search}
 use Rattle.model.specs.Format.{BatchFile}
 use Rattle.model.specs.Open.{opened}
 use Rattle.model.specs.Run.{ran}
-use Rattle.model.specs.Text.{plan_lines, plan_text, batch_text, written}
-use Rattle.model.specs.Answers.{plan, run_told, open_told, best_told}
+use Rattle.model.specs.Text.{plan_lines, plan_text, batch_text, fitting, written_as, written}
+use Rattle.model.specs.Answers.{plan, run_told, open_told, write_told, best_told}
 use Rattle.model.specs.Calls.{Call, call, after, granted}
 use Rattle.model.specs.Demands.{OpeningLeaves, RunLeaves, WritingLeaves, PlanWith, Reached}
+use Rattle.model.proofs.OutcomeLaws.{refused, refuse_as}
+use Rattle.model.proofs.NamedLaws.{named_number}
 use Rattle.model.proofs.EndLaws.{ends_unique}
 use Rattle.model.proofs.RefusalLaws.{Given, plan_text_given, batch_text_given}
 use Rattle.model.proofs.LeaveLaws.{opening_leaves, running_leaves, writing_leaves}
@@ -35,6 +39,14 @@ called_after (more {t} {c} {cs} r list' e h) = called_after h ∙ ap (λ (x : Ra
 
 pub writing : (text : Outcome (List ℕ)) → ((k : ℕ) → text ≡ refuse k → Given k) → (buffer : List ℕ) (w : Written) (buffer' : List ℕ) → (w, buffer') ≡ written text buffer → WritingLeaves text buffer w buffer'
 writing text given buffer w buffer' e = subst (λ (x : Written × List ℕ). WritingLeaves text buffer x.0 x.1) (sym e) (writing_leaves text given buffer)
+
+-- of a text whose refusal is one, by its type, nothing is asked
+pub writing_told : (text : Result (List ℕ) Refusal) (buffer : List ℕ) (w : Written) (buffer' : List ℕ) → (w, buffer') ≡ written (told text) buffer → WritingLeaves (told text) buffer w buffer'
+unfolding told written fitting written_as write_told ◌>>=◌
+writing_told (Ok t) buffer w buffer' e = writing (accept t) (λ k f. refused (sym f)) buffer w buffer' e
+writing_told (Err r) buffer w buffer' e =
+    subst (λ (x : Written × List ℕ). WritingLeaves (refuse (number r)) buffer x.0 x.1) (sym e)
+    (record { refused = λ k f. (ap refuse (ap number (named_number r)) ∙ refuse_as f, refl); long = λ t f h. refused f; fits = λ t f h. refused f })
 
 pub demand_1 : Demand1
 demand_1 =

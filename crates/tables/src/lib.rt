@@ -5,7 +5,7 @@ mod meeting;
 mod rest;
 
 pub use meeting::tables_meet;
-pub use rest::{rested, widened};
+pub use rest::{close_masks, longest_rest, rested, widened};
 
 // The rests of a batch: the longest, and the stations for which two ticks are too close, by the difference of the ticks + 22. (`longest` counts no
 // places: where it is above 0, all 45 count.)

@@ -8,7 +8,7 @@ use crate::{Places, Rests};
 use model::Job;
 
 // The longest rest of a station.
-fn longest_rest(rests: &[u8; 16]) -> usize
+pub fn longest_rest(rests: &[u8; 16]) -> usize
     requires { Resting rests.now }
     ensures { Longest rests.now result 16 }
 {
@@ -30,7 +30,7 @@ fn close_at(rests: &[u8; 16], gap: usize) -> u16
 
 // The stations for which two ticks are too close, by the difference of the ticks + 22. Ticks further apart than the longest rest are too close for none.
 // Where no station rests nobody asks, and nothing is worked out.
-fn close_masks(rests: &[u8; 16], longest: usize) -> [u16; 45]
+pub fn close_masks(rests: &[u8; 16], longest: usize) -> [u16; 45]
     requires { Longest rests.now longest 16 }
     ensures { 0 < longest → Closes rests.now result }
 {

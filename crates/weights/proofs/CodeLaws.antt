@@ -46,7 +46,7 @@ coded_gt (negsuc a) (negsuc b) e = omega (arith, leb-false b a e)
 -- ---- the machine's sixteen signed bits
 
 -- a weight that went by its bits
-limited_fits : (w : ℤ) → Limited w → SFits w16 w
+pub limited_fits : (w : ℤ) → Limited w → SFits w16 w
 limited_fits (pos k) h = let p : k ≤ 1000 = leb→le _ _ h.high.le in record { sfits = omega arith }
 limited_fits (negsuc k) h = let p : k ≤ 999 = leb→le _ _ h.low.le in record { sfits = omega arith }
 
@@ -68,8 +68,8 @@ coded_is w h =
 pub told_limited : (w : ℤ) → Limited w → Limited (to_z w16 (of_z w16 w))
 told_limited w h = rw (to_z-of_z w16 w (limited_fits w h)) h
 
-pub told_coded : (w : ℤ) (r : ℕ) → Limited w → r ≡ coded (to_z w16 (of_z w16 w)) → r ≡ coded w
-told_coded w r h e = e ∙ ap coded (to_z-of_z w16 w (limited_fits w h))
+pub told_coded : (w : ℤ) (r : ℕ) → SFits w16 w → r ≡ coded (to_z w16 (of_z w16 w)) → r ≡ coded w
+told_coded w r f e = e ∙ ap coded (to_z-of_z w16 w f)
 
 -- ---- clashes
 

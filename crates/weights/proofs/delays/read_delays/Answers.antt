@@ -1,5 +1,5 @@
 -- `read_delays` meets its contract: the delays of the columns are the batch's, and in each turn those below k have passed and are coded, and those from k on decide.
-use Rattle.weights.proofs.CodeLaws.{told_limited, told_coded}
+use Rattle.weights.proofs.CodeLaws.{limited_fits, told_limited, told_coded}
 use Rattle.weights.proofs.DelaysLaws.{read_none, read_limited, read_more, read_failed, read_all, read_not}
 use Rattle.weights.proofs.delays.read_delays.Goals as goal
 
@@ -18,7 +18,7 @@ code_of-requires c = told_limited _ (read_limited _ _ _ c.delay_ok.ensures c.if-
 -- delay k passes
 pub loop-k-preserved : goal.loop-k-preserved
 loop-k-preserved c = read_more _ _ _ _ _ c.loop-k.invariant c.loop-k-test.true _ _ c.delay_at-q.ensures c.delay_ok.ensures c.if-not-delay_ok.false _
-    (told_coded _ _ (read_limited _ _ _ c.delay_ok.ensures c.if-not-delay_ok.false) c.code_of.ensures)
+    (told_coded _ _ (limited_fits _ (read_limited _ _ _ c.delay_ok.ensures c.if-not-delay_ok.false)) c.code_of.ensures)
 
 -- all have passed
 pub returns : goal.returns
