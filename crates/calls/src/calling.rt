@@ -1,7 +1,7 @@
 // The planner's calls, made on the present record: the record after it, or none where the line names no call. The answer goes into the line of output.
 use crate::answers::{put_answer, put_verdict, put_written};
 use crate::digits::read_file;
-use crate::text::Output;
+use crate::text::{Output, Text};
 use model::Search;
 use std::fmt::Write;
 
@@ -14,8 +14,9 @@ const PLACES: [u16; 32] = [
 
 // Opens the file of a line.
 pub fn open(line: &[u8], out: &mut Output) -> Option<Search> {
-    let file = read_file(line)?;
-    let opened = planner::open(file.as_bytes());
+    let mut room = Text::new();
+    let file = read_file(line, &mut room)?;
+    let opened = planner::open(file);
     put_verdict(out, b'O', opened.answer);
     Some(opened.search)
 }
@@ -63,8 +64,10 @@ pub fn judge(search: Search, line: &[u8], out: &mut Output) -> Option<Search> {
         return None;
     }
     let blank = 2 + line[2..].iter().position(|byte| *byte == b' ')?;
-    let file = read_file(&line[..blank])?;
-    let text = read_file(&line[blank - 1..])?;
-    put_verdict(out, b'J', planner::judge(file.as_bytes(), text.as_bytes()));
+    let mut file_room = Text::new();
+    let mut text_room = Text::new();
+    let file = read_file(&line[..blank], &mut file_room)?;
+    let text = read_file(&line[blank - 1..], &mut text_room)?;
+    put_verdict(out, b'J', planner::judge(file, text));
     Some(search)
 }

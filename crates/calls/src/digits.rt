@@ -1,12 +1,12 @@
 // Digits, and the bytes of a file that they give two by two.
 use crate::text::Text;
 
-// The file whose digits stand behind the letter of a line and a blank, or the empty file; none where there are other bytes, a single digit or more
-// than a file here can have.
-pub fn read_file(line: &[u8]) -> Option<Text<65536>> {
-    let mut file = Text::new();
+// The file whose digits stand behind the letter of a line and a blank, or the empty file, read into the room that is lent: a text of 64 KB handed over by
+// value would be copied. None where there are other bytes, a single digit or more than a file here can have.
+pub fn read_file<'a>(line: &[u8], file: &'a mut Text<65536>) -> Option<&'a [u8]> {
+    file.clear();
     if line.len() < 2 {
-        return Some(file);
+        return Some(file.as_bytes());
     }
     if line[1] != b' ' || line.len() > 131074 {
         return None;
@@ -17,7 +17,7 @@ pub fn read_file(line: &[u8]) -> Option<Text<65536>> {
         };
         file.put(digit(*high)? << 4 | digit(*low)?);
     }
-    Some(file)
+    Some(file.as_bytes())
 }
 
 // The value of a digit, 0 to 9 and A to F. (Not lines' own, which gives another character 0, as the definition `byte_at` has it.)

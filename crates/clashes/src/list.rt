@@ -43,7 +43,9 @@ pub fn list_clashes(batch: &Batch, clashes: &mut Clashes)
     for i in 0..n.saturating_sub(1) {
         let first = widened(&batch.jobs[i], &rests);
         for j in i + 1..n {
-            add_pair(clashes, &first, &batch.jobs[j], i * 2048 + j * 64);
+            // A copy, and not the batch's own: a code that is stored cannot change it, so that its ticks are read once for all distances.
+            let second = batch.jobs[j];
+            add_pair(clashes, &first, &second, i * 2048 + j * 64);
         }
     }
 }
