@@ -1,5 +1,6 @@
 -- `read_further` reads kind after kind, and asks for the end of the file.
 use mathlib.Core.Path.{sym}
+use native.Mathlib.Omega.{arith}
 use Rattle.std.proofs.lemmas.Result.{err_from_is_err_and}
 use Rattle.model.specs.Refusal.{told}
 use Rattle.further_read.proofs.FurtherLaws.{windows_refused, windows_at, rests_refused, rests_at, further_windows, further_rests, further_left, further_read}
@@ -14,7 +15,7 @@ returns-in_err-windows c =
 
 pub read_rests-requires : goal.read_rests-requires
 unfolding told
-read_rests-requires c = (windows_at _ _ _ c.requires.0 c.in_ok-windows.ensures).inside
+read_rests-requires c = omega (arith, (windows_at _ _ _ c.requires.0 c.in_ok-windows.ensures).inside)
 
 -- a rest is refused
 pub returns-in_err-rests : goal.returns-in_err-rests
